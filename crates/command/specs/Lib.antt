@@ -1,0 +1,4 @@
+pub mod Machine
+pub mod Plain
+pub mod Codes
+pub mod Breaks

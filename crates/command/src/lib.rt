@@ -1,0 +1,3 @@
+// Commands, breaks and programs: the lowest layer, with the definitions of the processor and of the plain debugger.
+pub mod breaks;
+pub mod code;

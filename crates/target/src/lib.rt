@@ -1,0 +1,1 @@
+// What the processor is told and what it tells.
