@@ -1,1 +1,3 @@
 pub mod Run
+pub mod Whys
+pub mod Acts

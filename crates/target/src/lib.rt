@@ -1,1 +1,3 @@
 // What the processor is told and what it tells.
+pub mod answers;
+pub mod processor;
