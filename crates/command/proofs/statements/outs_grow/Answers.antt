@@ -1,0 +1,6 @@
+-- The statement is the lemma of the module that it names.
+use Rattle.command.proofs.statements.outs_grow.Needs as need
+use Rattle.command.proofs.OutsGrow.{outs-grow}
+
+pub returns : need.returns
+returns c = outs-grow

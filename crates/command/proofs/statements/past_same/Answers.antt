@@ -1,0 +1,6 @@
+-- The statement is the lemma of the module that it names.
+use Rattle.command.proofs.statements.past_same.Needs as need
+use Rattle.command.proofs.MoreInput.{past-same}
+
+pub returns : need.returns
+returns c = past-same

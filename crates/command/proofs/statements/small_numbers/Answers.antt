@@ -1,0 +1,6 @@
+-- The statement is the lemma of the module that it names.
+use Rattle.command.proofs.statements.small_numbers.Needs as need
+use Rattle.command.proofs.SmallNumbers.{small-numbers}
+
+pub returns : need.returns
+returns c = small-numbers

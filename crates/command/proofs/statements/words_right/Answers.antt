@@ -1,0 +1,6 @@
+-- The statement is the lemma of the module that it names.
+use Rattle.command.proofs.statements.words_right.Needs as need
+use Rattle.command.proofs.WordsHold.{words-right}
+
+pub returns : need.returns
+returns c = words-right
