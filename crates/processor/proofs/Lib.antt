@@ -1,0 +1,6 @@
+pub mod Reckons
+pub mod Ops
+pub mod Writes
+pub mod Folds
+pub mod Copies
+pub mod Marks

@@ -1,0 +1,2 @@
+pub mod Reckons
+pub mod Pages

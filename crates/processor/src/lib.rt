@@ -1,0 +1,6 @@
+// A processor of our own, with 256 slots for kept states.
+pub mod arith;
+mod copying;
+mod pages;
+mod store;
+mod words;

@@ -1,0 +1,1 @@
+// The processor's 65,536 words.
