@@ -1,1 +1,2 @@
 // What the processor is told and what it tells.
+pub mod statements;

@@ -1,0 +1,4 @@
+-- The lemmas of this crate, module by module.
+pub mod Goings
+pub mod GoingKeeps
+pub mod Slots
