@@ -2,3 +2,5 @@
 pub mod Goings
 pub mod GoingKeeps
 pub mod Slots
+pub mod GoingTill
+pub mod Looked

@@ -1,0 +1,6 @@
+-- The statement is the lemma of the module that it names.
+use Rattle.command.proofs.statements.changer_exact.Needs as need
+use Rattle.command.proofs.Exact.{changer-exact}
+
+pub returns : need.returns
+returns c = changer-exact

@@ -1,0 +1,6 @@
+-- The statement is the lemma of the module that it names.
+use Rattle.command.proofs.statements.first_stop_exact.Needs as need
+use Rattle.command.proofs.Exact.{first-stop-exact}
+
+pub returns : need.returns
+returns c = first-stop-exact
