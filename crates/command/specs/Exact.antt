@@ -1,5 +1,5 @@
--- Where going on, going back and looking for a change stop, said so that it can be nowhere else. Each is a statement whose proof a function of
--- src/statements.rt has in its contract. Assumes nothing.
+-- Where going on, going back and looking for a change stop, said so that it can be nowhere else. Each is a statement; a function of
+-- src/statements.rt has it as its contract. Assumes nothing.
 use mathlib.Core.Path.{_≡_}
 use mathlib.Core.Bool.{true, false}
 use mathlib.Core.List.{List, [], _∷_}

@@ -1,4 +1,5 @@
--- What is promised of the processor and of the plain debugger, each a statement whose proof a function of src/statements.rt has in its contract. Assumes nothing.
+-- What is promised of the processor and of the plain debugger. Each is a statement; a function of src/statements.rt has it as its contract.
+-- Assumes nothing.
 use mathlib.Core.Path.{_≡_}
 use mathlib.Core.Bool.{true, false}
 use mathlib.Core.List.{List, [], _∷_, _++_}

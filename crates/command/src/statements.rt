@@ -1,4 +1,5 @@
-// What is proved of the processor and of the plain debugger: each function does nothing, and its contract is a statement, so that the check fails without its proof.
+// What is proved of the processor and of the plain debugger. Each function does nothing; its contract is a statement, so that the check fails
+// without its proof.
 ghost use Rattle.command.specs.Statements.{Past-same, Words-right, Small-numbers, Small-states, Outs-grow, First-stop, Last-stop, Changer-last};
 ghost use Rattle.command.specs.Exact.{First-stop-exact, Last-stop-exact, Changer-exact};
 
@@ -23,7 +24,7 @@ pub fn small_numbers() -> u8
     0
 }
 
-// At all times there are sixteen registers, and registers, words, what went out and the place are below 2^32, if program and input fit.
+// If program and input fit: at all times there are sixteen registers, and registers, words, what went out and the place are below 2^32.
 pub fn small_states() -> u8
     ensures { λ _. ⌜ Small-states ⌝ }
 {
@@ -58,14 +59,16 @@ pub fn changer_last() -> u8
     0
 }
 
-// Going on stops at a time if and only if it ran till there, no break held on the way, and there is a reason to stop: stronger than `first_stop`, which a debugger that runs past a halt would meet.
+// Going on stops at a time if and only if it ran till there, no break held on the way, and there is a reason to stop. Stronger than
+// `first_stop`, which a debugger that runs past a halt would meet.
 pub fn first_stop_exact() -> u8
     ensures { λ _. ⌜ First-stop-exact ⌝ }
 {
     0
 }
 
-// Going back stops at a time if and only if no break held on the way and there is a reason to stop: stronger than `last_stop`, which a debugger that finds again the break that holds now would meet.
+// Going back stops at a time if and only if no break held on the way and there is a reason to stop. Stronger than `last_stop`, which a
+// debugger that finds again the break that holds now would meet.
 pub fn last_stop_exact() -> u8
     ensures { λ _. ⌜ Last-stop-exact ⌝ }
 {

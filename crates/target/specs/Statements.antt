@@ -1,4 +1,4 @@
--- What is promised of going on, each a statement whose proof a function of src/statements.rt has in its contract. Assumes nothing.
+-- What is promised of going on. Each is a statement; a function of src/statements.rt has it as its contract. Assumes nothing.
 use mathlib.Core.Path.{_≡_}
 use mathlib.Core.Bool.{true}
 use mathlib.Core.List.{List, []}

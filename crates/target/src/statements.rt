@@ -1,4 +1,4 @@
-// What is proved of going on: each function does nothing, and its contract is a statement, so that the check fails without its proof.
+// What is proved of going on. Each function does nothing; its contract is a statement, so that the check fails without its proof.
 ghost use Rattle.target.specs.Statements.{Going-on, Going-there};
 
 // Going on by n and then by m is going on by n + m.

@@ -1,4 +1,4 @@
--- The statement is the lemma of the module that it names.
+-- What `changer_exact` promises is proved in proofs/Exact.
 use Rattle.command.proofs.statements.changer_exact.Needs as need
 use Rattle.command.proofs.Exact.{changer-exact}
 

@@ -1,6 +1,6 @@
--- The statement is the lemma of the module that it names.
+-- What `changer_last` promises is proved in proofs/Exact.
 use Rattle.command.proofs.statements.changer_last.Needs as need
-use Rattle.command.proofs.Stops.{changer-last}
+use Rattle.command.proofs.Exact.{changer-last}
 
 pub returns : need.returns
 returns c = changer-last

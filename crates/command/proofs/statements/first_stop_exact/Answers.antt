@@ -1,4 +1,4 @@
--- The statement is the lemma of the module that it names.
+-- What `first_stop_exact` promises is proved in proofs/Exact.
 use Rattle.command.proofs.statements.first_stop_exact.Needs as need
 use Rattle.command.proofs.Exact.{first-stop-exact}
 

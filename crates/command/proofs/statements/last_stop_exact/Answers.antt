@@ -1,4 +1,4 @@
--- The statement is the lemma of the module that it names.
+-- What `last_stop_exact` promises is proved in proofs/Exact.
 use Rattle.command.proofs.statements.last_stop_exact.Needs as need
 use Rattle.command.proofs.Exact.{last-stop-exact}
 

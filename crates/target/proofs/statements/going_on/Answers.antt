@@ -1,4 +1,4 @@
--- The statement is the lemma of the module that it names.
+-- What `going_on` promises is proved in proofs/Goings.
 use Rattle.target.proofs.statements.going_on.Needs as need
 use Rattle.target.proofs.Goings.{going-on}
 
