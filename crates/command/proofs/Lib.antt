@@ -9,3 +9,9 @@ pub mod Running
 pub mod MoreInput
 pub mod SmallStates
 pub mod OutsGrow
+pub mod Stops
+pub mod Times
+pub mod StopsAre
+pub mod Exact
+pub mod PastStays
+pub mod Shown

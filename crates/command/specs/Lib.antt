@@ -3,3 +3,4 @@ pub mod Plain
 pub mod Codes
 pub mod Breaks
 pub mod Statements
+pub mod Exact

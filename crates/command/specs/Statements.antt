@@ -1,12 +1,14 @@
--- What is promised of the processor and of the plain debugger, each a statement whose proof a function of src/statements.rt has in its contract. Assumes nothing.
+-- What is promised of the processor and of the plain debugger. Each is a statement; a function of src/statements.rt has it as its contract.
+-- Assumes nothing.
 use mathlib.Core.Path.{_≡_}
 use mathlib.Core.Bool.{true, false}
 use mathlib.Core.List.{List, [], _∷_, _++_}
-use Prim.Native.Nat.{ℕ, _≤_, _<_}
+use mathlib.Core.Logic.{_⊎_}
+use Prim.Native.Nat.{ℕ, _+_, _≤_, _<_}
 use lib.Dec.{eqb, ltb}
 use lib.ListN.{length}
-use Rattle.command.specs.Machine.{every, Instr, Word, State, state-at, word-at, put-word, is-running, reckoned, whole}
-use Rattle.command.specs.Plain.{a-word, an-instr}
+use Rattle.command.specs.Machine.{every, Instr, Word, State, state-at, word-at, put-word, is-running, reckoned, whole, goes-on}
+use Rattle.command.specs.Plain.{a-word, an-instr, Plain, Break, holds-at, on-till, back-till, changes-at, last-change}
 
 -- More to come in changes nothing of what was.
 unfoldable pub Past-same : Type 0
@@ -41,3 +43,22 @@ Small-states =
 unfoldable pub Outs-grow : Type 0
 Outs-grow =
     (is : List Instr) (ins : List ℕ) (u t : ℕ) → u ≤ t → (more : List ℕ) × (state-at is ins t .out ≡ (state-at is ins u .out) ++ more)
+
+-- Where one stops, going on, is the first; and going back, the last.
+unfoldable pub First-stop : Type 0
+First-stop =
+    (w : Plain) (bs : List Break) (t n u : ℕ) → on-till w bs t n ≡ u →
+    (t ≤ u) × (u ≤ t + n) × ((v : ℕ) → t < v → v < u → holds-at w bs v ≡ false)
+    × ((holds-at w bs u ≡ true) ⊎ ((u ≡ t + n) ⊎ (goes-on (w .program) (w .ins) u ≡ false)))
+
+unfoldable pub Last-stop : Type 0
+Last-stop =
+    (w : Plain) (bs : List Break) (t n u : ℕ) → back-till w bs t n ≡ u →
+    (u ≤ t) × (t ≤ u + n) × ((v : ℕ) → u < v → v < t → 1 ≤ v → holds-at w bs v ≡ false)
+    × ((holds-at w bs u ≡ true) ⊎ ((u ≡ 0) ⊎ (t ≡ u + n)))
+
+-- The last step that changed a word is one, and none after it is.
+unfoldable pub Changer-last : Type 0
+Changer-last =
+    (w : Plain) (a t u : ℕ) → last-change w a t ≡ u ∷ [] →
+    (changes-at w a u ≡ true) × (u ≤ t) × ((v : ℕ) → u < v → v ≤ t → changes-at w a v ≡ false)

@@ -44,7 +44,7 @@ unfolding marked
 next-mark [] k h e = absurd (omega arith)
 next-mark (true ∷ bs) zero h e = absurd (false≢true (sym e))
 next-mark (false ∷ bs) zero h e = refl
-next-mark (true ∷ bs) (suc k) h e = ap suc (next-mark bs k (omega arith) e)
+next-mark (true ∷ bs) (suc k) h e = ap (λ n. 1 + n) (next-mark bs k (omega arith) e)
 next-mark (false ∷ bs) (suc k) h e = next-mark bs k (omega arith) e
 
 pub not-marked : (bs : List Bool) (k : ℕ) → k < length bs → getD bs k false ≡ false → marked (take (k + 1) bs) ≡ marked (take k bs)
@@ -55,11 +55,11 @@ unfolding marked
 more-mark [] k h e = absurd (omega arith)
 more-mark (true ∷ bs) zero h e = refl
 more-mark (false ∷ bs) zero h e = absurd (false≢true e)
-more-mark (true ∷ bs) (suc k) h e = ap suc (more-mark bs k (omega arith) e)
+more-mark (true ∷ bs) (suc k) h e = let q = more-mark bs k (omega arith) e in omega arith
 more-mark (false ∷ bs) (suc k) h e = more-mark bs k (omega arith) e
 
 pub also-marked : (bs : List Bool) (k : ℕ) → k < length bs → getD bs k false ≡ true → marked (take (k + 1) bs) ≡ marked (take k bs) + 1
-also-marked bs k h e = rw (add-one k) (more-mark bs k h e ∙ sym (add-one _))
+also-marked bs k h e = rw add-one (more-mark bs k h e ∙ sym (add-one (marked (take k bs))))
 
 pub gathered-none : (used : List Bool) → Gathered used 0 []
 gathered-none used = record { below = λ j h. absurd (omega arith); clear = λ j h. absurd (omega arith); distinct = λ i j p h. absurd (omega arith) }

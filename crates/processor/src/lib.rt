@@ -4,3 +4,5 @@ mod copying;
 mod pages;
 mod store;
 mod words;
+mod writing;
+mod writing;

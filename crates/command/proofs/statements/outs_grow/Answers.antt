@@ -1,4 +1,4 @@
--- The statement is the lemma of the module that it names.
+-- What `outs_grow` promises is proved in proofs/OutsGrow.
 use Rattle.command.proofs.statements.outs_grow.Needs as need
 use Rattle.command.proofs.OutsGrow.{outs-grow}
 

@@ -1,4 +1,4 @@
--- The statement is the lemma of the module that it names.
+-- What `past_same` promises is proved in proofs/MoreInput.
 use Rattle.command.proofs.statements.past_same.Needs as need
 use Rattle.command.proofs.MoreInput.{past-same}
 

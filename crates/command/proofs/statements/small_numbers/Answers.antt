@@ -1,4 +1,4 @@
--- The statement is the lemma of the module that it names.
+-- What `small_numbers` promises is proved in proofs/SmallNumbers.
 use Rattle.command.proofs.statements.small_numbers.Needs as need
 use Rattle.command.proofs.SmallNumbers.{small-numbers}
 

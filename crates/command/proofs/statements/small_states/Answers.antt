@@ -1,4 +1,4 @@
--- The statement is the lemma of the module that it names.
+-- What `small_states` promises is proved in proofs/SmallStates.
 use Rattle.command.proofs.statements.small_states.Needs as need
 use Rattle.command.proofs.SmallStates.{small-states}
 

@@ -1,4 +1,4 @@
--- The statement is the lemma of the module that it names.
+-- What `words_right` promises is proved in proofs/WordsHold.
 use Rattle.command.proofs.statements.words_right.Needs as need
 use Rattle.command.proofs.WordsHold.{words-right}
 
