@@ -5,4 +5,3 @@ mod pages;
 mod store;
 mod words;
 mod writing;
-mod writing;
