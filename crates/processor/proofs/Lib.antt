@@ -3,4 +3,8 @@ pub mod Ops
 pub mod Writes
 pub mod Folds
 pub mod Copies
+pub mod Zeros
+pub mod Defaults
 pub mod Marks
+pub mod Rows
+pub mod Flushes

@@ -59,7 +59,7 @@ more-mark (true ∷ bs) (suc k) h e = let q = more-mark bs k (omega arith) e in 
 more-mark (false ∷ bs) (suc k) h e = more-mark bs k (omega arith) e
 
 pub also-marked : (bs : List Bool) (k : ℕ) → k < length bs → getD bs k false ≡ true → marked (take (k + 1) bs) ≡ marked (take k bs) + 1
-also-marked bs k h e = rw add-one (more-mark bs k h e ∙ sym (add-one (marked (take k bs))))
+also-marked bs k h e = rw (add-one k) (more-mark bs k h e ∙ sym (add-one (marked (take k bs))))
 
 pub gathered-none : (used : List Bool) → Gathered used 0 []
 gathered-none used = record { below = λ j h. absurd (omega arith); clear = λ j h. absurd (omega arith); distinct = λ i j p h. absurd (omega arith) }
@@ -90,3 +90,15 @@ gathered-push used k fs e g =
           let lj : j < length fs = omega (arith, length-append fs (k ∷ [])) in
           λ same. g .distinct i j p lj (sym (getD-append-left fs (k ∷ []) 0 i lt) ∙ same ∙ getD-append-left fs (k ∷ []) 0 j lj));
     }
+
+pub clear-stays : (bs : List Bool) (k x : ℕ) → getD bs x false ≡ false → getD (set bs k false) x false ≡ false
+clear-stays [] k x h = h
+clear-stays (b ∷ bs) zero zero h = refl
+clear-stays (b ∷ bs) zero (suc x) h = h
+clear-stays (b ∷ bs) (suc k) zero h = h
+clear-stays (b ∷ bs) (suc k) (suc x) h = clear-stays bs k x h
+
+pub clear-there : (bs : List Bool) (k : ℕ) → getD (set bs k false) k false ≡ false
+clear-there [] k = refl
+clear-there (b ∷ bs) zero = refl
+clear-there (b ∷ bs) (suc k) = clear-there bs k

@@ -18,7 +18,7 @@ pub(crate) struct Pages {
     ghost marks: { vec-len used ≡ 73728 },
     ghost room: { 73728 ≤ vec-cap free },
     ghost inside: { Inside (vec-items tables) },
-    ghost free_inside: { Free-inside (vec-items free) },
+    ghost spare: { Free-inside (vec-items free) },
     ghost apart: { Apart (vec-items tables) (vec-items free) },
     ghost distinct: { Distinct (vec-items free) },
 }
