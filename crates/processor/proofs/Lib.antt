@@ -4,3 +4,5 @@ pub mod Writes
 pub mod Folds
 pub mod Copies
 pub mod Marks
+pub mod Instructions
+pub mod Goes

@@ -1,2 +1,3 @@
 pub mod Reckons
 pub mod Pages
+pub mod Like
