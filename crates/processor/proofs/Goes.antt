@@ -61,27 +61,27 @@ module _ (is : List Instr) (ins : List ℕ) (bs : List Stop) (b : Base) (m m₁ 
   pub far-on : (w : Went) (h : Bool) → by < n → So-far is ins bs b m n by s
       → ((t : Model) → Like b m t → After b m₁ w t (step is ins t)) → ((y : Why) → w ≡ Not y → ⊥)
       → ((t u : Model) → On-to b m₁ w t u → h ≡ any (holds t u) bs) → h ≡ false → So-far is ins bs b m₁ n (by + 1) s
-  far-on w h b (t, l, e) f ny g z =
+  far-on w h lt (t, l, e) f ny g z =
       let o = went-on b m₁ w t (step is ins t) (f t l) ny in
-      (step is ins t, o .like, e ∙ goes-on is ins bs n by t b (o .like .runs) (sym (g t _ o) ∙ z))
+      (step is ins t, o .like, e ∙ goes-on is ins bs n by t lt (o .like .runs) (sym (g t _ o) ∙ z))
 
   pub far-hit : (w : Went) (h : Bool) → by < n → So-far is ins bs b m n by s
       → ((t : Model) → Like b m t → After b m₁ w t (step is ins t)) → ((y : Why) → w ≡ Not y → ⊥)
       → ((t u : Model) → On-to b m₁ w t u → h ≡ any (holds t u) bs) → h ≡ true
       → Came-to b m₁ (record { by = by + 1; hit = true; why = None }) (going n is ins bs s 0)
-  far-hit w h b (t, l, e) f ny g z =
+  far-hit w h lt (t, l, e) f ny g z =
       let o = went-on b m₁ w t (step is ins t) (f t l) ny in
-      let k = e ∙ goes-hit is ins bs n by t b (o .like .runs) (sym (g t _ o) ∙ z) in
+      let k = e ∙ goes-hit is ins bs n by t lt (o .like .runs) (sym (g t _ o) ∙ z) in
       subst (Came-to b m₁ (record { by = by + 1; hit = true; why = None })) (sym k) (record { like = o .like; by = refl; hit = refl; why = refl })
 
   pub far-not : (y : Why) → by < n → So-far is ins bs b m n by s
       → ((t : Model) → Like b m t → Stays b m₁ (status-of y) t (step is ins t))
       → Came-to b m₁ (record { by = by; hit = false; why = Some y }) (going n is ins bs s 0)
-  far-not y b (t, l, e) f =
+  far-not y lt (t, l, e) f =
       let o = f t l in
-      let k = e ∙ goes-not is ins bs n by t b (ap is-running (o .why) ∙ not-running y) ∙ ap (λ z. came-to t by false (status-number z)) (o .why) in
+      let k = e ∙ goes-not is ins bs n by t lt (ap is-running (o .why) ∙ not-running y) ∙ ap (λ z. came-to t by false (status-number z)) (o .why) in
       subst (Came-to b m₁ (record { by = by; hit = false; why = Some y })) (sym k) (record { like = o .like; by = refl; hit = refl; why = refl })
 
   pub far-all : by ≤ n → n ≤ by → So-far is ins bs b m n by s → Came-to b m (record { by = by; hit = false; why = None }) (going n is ins bs s 0)
-  far-all b d (t, l, e) =
-      subst (Came-to b m (record { by = by; hit = false; why = None })) (sym (e ∙ goes-none is ins bs n by t b d)) (record { like = l; by = refl; hit = refl; why = refl })
+  far-all le ge (t, l, e) =
+      subst (Came-to b m (record { by = by; hit = false; why = None })) (sym (e ∙ goes-none is ins bs n by t le ge)) (record { like = l; by = refl; hit = refl; why = refl })

@@ -4,5 +4,6 @@ pub mod Writes
 pub mod Folds
 pub mod Copies
 pub mod Marks
+pub mod Laying
 pub mod Instructions
 pub mod Goes
