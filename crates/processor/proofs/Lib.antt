@@ -8,3 +8,6 @@ pub mod Defaults
 pub mod Marks
 pub mod Rows
 pub mod Flushes
+pub mod Laying
+pub mod Instructions
+pub mod Goes

@@ -1,3 +1,4 @@
 pub mod Reckons
 pub mod Pages
 pub mod Held
+pub mod Like

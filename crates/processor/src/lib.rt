@@ -2,7 +2,12 @@
 pub mod arith;
 mod copying;
 mod keeping;
+mod going;
+mod kept;
 mod pages;
+mod state;
+mod steps;
+mod stops;
 mod store;
 mod words;
 mod writing;
