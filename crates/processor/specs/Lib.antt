@@ -2,3 +2,4 @@ pub mod Reckons
 pub mod Pages
 pub mod Held
 pub mod Like
+pub mod Holding

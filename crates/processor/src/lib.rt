@@ -1,9 +1,11 @@
 // A processor of our own, with 256 slots for kept states.
 pub mod arith;
 mod copying;
-mod keeping;
+pub mod emulator;
 mod going;
+mod keeping;
 mod kept;
+mod making;
 mod pages;
 mod state;
 mod steps;

@@ -4,3 +4,4 @@ pub mod GoingKeeps
 pub mod Slots
 pub mod GoingTill
 pub mod Looked
+pub mod Doing
