@@ -7,3 +7,4 @@ pub mod Marks
 pub mod Laying
 pub mod Instructions
 pub mod Goes
+pub mod WhyNot

@@ -4,6 +4,7 @@ mod copying;
 mod going;
 mod kept;
 mod pages;
+mod reasons;
 mod state;
 mod steps;
 mod stops;
