@@ -1,20 +1,20 @@
 -- Going on, a step at a time. Assumes nothing.
 use mathlib.Core.Path.{_≡_, refl, sym, ap, _∙_, subst}
 use mathlib.Core.Bool.{Bool, true, false}
-use mathlib.Core.List.{List, [], _∷_}
-use Prim.Native.Nat.{ℕ, zero, suc, _+_, _-_, _≤_, _<_}
+use mathlib.Core.List.{List}
+use Prim.Native.Nat.{ℕ, suc, _+_, _-_, _≤_, _<_}
 use native.Mathlib.Omega.{arith}
 use native.Mathlib.Numerals.{add-one}
-use Rattle.command.specs.Machine.{pick, any, Instr, State as Model, Status, running, halted, waiting, wrong, is-running, step}
+use Rattle.command.specs.Machine.{any, Instr, State as Model, running, is-running, step}
 use Rattle.command.specs.Plain.{Break as Stop, holds, status-number}
-use Rattle.target.specs.Run.{going, came-to, Came as Far}
+use Rattle.target.specs.Run.{going, came-to}
 use Rattle.std.specs.declared.option.Option.the-variants.{Some, None}
 use Rattle.processor.specs.declared.state.State.{State}
 use Rattle.target.specs.declared.answers.Why.{Why}
 use Rattle.target.specs.declared.answers.Why.the-variants.{Halted, Waits, NoInstr, NoWord, ByZero}
 use Rattle.processor.specs.declared.steps.Went.{Went}
 use Rattle.processor.specs.declared.steps.Went.the-variants.{On, Wrote, Not}
-use Rattle.target.specs.Whys.{status-of, why-number}
+use Rattle.target.specs.Whys.{status-of}
 use Rattle.processor.specs.Like.{Base, Like, On-to, Stays, After, Came-to}
 
 left : (n by : ℕ) → by < n → n - by ≡ suc (n - (by + 1))

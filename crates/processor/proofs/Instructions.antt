@@ -1,17 +1,17 @@
 -- What each instruction makes of a state that the processor holds. Assumes nothing.
-use mathlib.Core.Path.{_≡_, refl, sym, ap, _∙_, subst}
-use mathlib.Core.Bool.{Bool, true, false}
+use mathlib.Core.Path.{_≡_, refl, sym, ap, _∙_}
+use mathlib.Core.Bool.{Bool}
 use mathlib.Core.Logic.{_⊎_, inl, inr}
 use mathlib.Core.List.{List, [], _∷_, _++_}
 use Prim.Native.Nat.{ℕ, zero, suc, _+_, _-_, _≤_, _<_}
 use native.Mathlib.Omega.{arith}
 use native.Mathlib.Numerals.{add-one}
-use lib.ListN.{getD, set, length, drop}
+use lib.ListN.{getD, set, length}
 use lib.Seq.{drop-cons}
 use Rattle.std.specs.Of.Vec.{vec-items}
 use Rattle.std.proofs.shelf.Lists.{drop-all, length-push}
 use Rattle.std.proofs.shelf.Tests.{lt-ltb, le-ltb, le-leb}
-use Rattle.command.specs.Machine.{pick, State as Model, Status, running, halted, waiting, wrong, Instr, reckon, read, write, jump-if, call, return, take-in, put-out, with-reg, with-status, reckoned, reckon-done, taken-in, compared, does, one, step, instr-at, is-running, gone-to}
+use Rattle.command.specs.Machine.{pick, State as Model, Status, waiting, wrong, reckon, read, write, jump-if, call, return, take-in, put-out, with-reg, with-status, reckoned, reckon-done, taken-in, compared, does, one, step, instr-at, is-running, gone-to}
 use Rattle.command.specs.declared.code.Instr.{Instr as Code}
 use Rattle.command.specs.Codes.{code, codes}
 use Rattle.processor.specs.declared.state.State.{State}
@@ -224,6 +224,3 @@ module _ (b : Base) (m : State) (s : Model) (l : Like b m s) where
         };
         was = λ a. refl;
       }
-
-  pub halts : (ins : List ℕ) → Stays b m halted s (with-status s halted)
-  halts ins = stays-with (with-status s halted) halted refl

@@ -11,3 +11,4 @@ pub mod Flushes
 pub mod Laying
 pub mod Instructions
 pub mod Goes
+pub mod WhyNot

@@ -1,12 +1,11 @@
 -- When the processor holds a state of its definition, and what a step may make of it. Assumes nothing: these are definitions.
 use mathlib.Core.Path.{_≡_}
-use mathlib.Core.List.{List, [], _∷_, _++_}
-use Prim.Native.Nat.{ℕ, _+_, _<_, _≤_}
+use mathlib.Core.List.{List, _++_}
+use Prim.Native.Nat.{ℕ, _+_, _≤_}
 use lib.Dec.{eqb}
 use lib.ListN.{getD, length, drop}
 use Rattle.std.specs.Of.Vec.{vec-items, vec-cap}
 use Rattle.command.specs.Machine.{pick, word-at, Status, running, State as Model}
-use Rattle.target.specs.declared.answers.Why.{Why}
 use Rattle.target.specs.declared.answers.Came.{Came}
 use Rattle.target.specs.Run.{Came as Far}
 use Rattle.target.specs.Whys.{status-of, why-number}

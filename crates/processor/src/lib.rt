@@ -7,6 +7,7 @@ mod keeping;
 mod kept;
 mod making;
 mod pages;
+mod reasons;
 mod state;
 mod steps;
 mod stops;

@@ -1,10 +1,7 @@
-use mathlib.Core.Path.{_≡_, refl, sym, ap, _∙_, subst}
-use mathlib.Core.Bool.{true, false}
-use Prim.Native.Nat.{ℕ, _+_, _<_, _≤_}
-use native.Mathlib.Omega.{arith}
-use lib.ListN.{length, getD, take}
+use mathlib.Core.Path.{_≡_, sym, ap, _∙_, subst}
+use mathlib.Core.Bool.{false}
 use Rattle.std.proofs.shelf.Lists.{take-all}
-use Rattle.command.specs.Machine.{any, each}
+use Rattle.command.specs.Machine.{any}
 use Rattle.command.specs.Plain.{holds}
 use Rattle.command.specs.Breaks.{break-of, breaks-of}
 use Rattle.processor.proofs.Folds.{any-more, any-there}

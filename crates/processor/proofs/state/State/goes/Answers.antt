@@ -1,4 +1,3 @@
-use Prim.Native.Nat.{_+_, _-_, _≤_}
 use native.Mathlib.Omega.{arith}
 use Rattle.command.specs.Breaks.{breaks-of}
 use Rattle.command.specs.Codes.{codes}

@@ -1,4 +1,3 @@
-use mathlib.Core.Path.{_≡_}
 use Prim.Native.Nat.{_+_, _-_, _≤_}
 use Rattle.std.specs.Of.Vec.{vec-cap}
 use Rattle.command.specs.Breaks.{breaks-of}

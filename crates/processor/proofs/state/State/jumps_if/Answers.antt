@@ -1,7 +1,6 @@
 use Prim.Native.Nat.{_+_}
 use native.Mathlib.Omega.{arith}
 use Rattle.command.specs.Codes.{comparison-number}
-use Rattle.command.specs.Machine.{pick}
 use Rattle.processor.proofs.Instructions.{jumps}
 use Rattle.processor.proofs.state.State.jumps_if.Needs as need
 
