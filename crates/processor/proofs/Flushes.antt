@@ -10,6 +10,7 @@ use Rattle.std.proofs.shelf.Tests.{eqb-true, eqb-false, ne-eqb, false≢true}
 use Rattle.command.specs.Machine.{pick}
 use Rattle.command.proofs.Picks.{by-test}
 use Rattle.std.specs.Of.Vec.{vec-len, vec-items}
+use Rattle.processor.proofs.Defaults.{defaults-copies}
 use Rattle.processor.specs.Pages.{page-word, Clean, Stored}
 use Rattle.processor.specs.Held.{held-word}
 use Rattle.processor.specs.declared.pages.Pages.{Pages}
@@ -47,13 +48,8 @@ clean-front ws dirty W p hp d g f a h =
 pub all-clean : (ws : List ℕ) (dirty : List Bool) (W : ℕ → ℕ → ℕ) → ((a : ℕ) → a < 65536 → W 256 a ≡ getD ws a 0) → Clean-by ws dirty W
 all-clean ws dirty W f a h d = sym (f a h)
 
-pub all-dirty : (n k : ℕ) → getD (replicate n true) k true ≡ true
-all-dirty zero k = refl
-all-dirty (suc n) zero = refl
-all-dirty (suc n) (suc k) = all-dirty n k
-
 pub dirty-clean : (ws : List ℕ) (W : ℕ → ℕ → ℕ) → Clean-by ws (replicate 256 true) W
-dirty-clean ws W a h d = absurd (false≢true (sym d ∙ all-dirty 256 (a / 256)))
+dirty-clean ws W a h d = absurd (false≢true (sym d ∙ defaults-copies 256 true (a / 256)))
 
 -- one page more is the slot's
 module _ (ws₀ ws : List ℕ) (slot p : ℕ) (hp : p < 256) (V : ℕ → ℕ)

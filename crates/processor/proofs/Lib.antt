@@ -3,7 +3,6 @@ pub mod Ops
 pub mod Writes
 pub mod Folds
 pub mod Copies
-pub mod Zeros
 pub mod Defaults
 pub mod Marks
 pub mod Rows

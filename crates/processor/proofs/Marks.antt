@@ -90,15 +90,3 @@ gathered-push used k fs e g =
           let lj : j < length fs = omega (arith, length-append fs (k ∷ [])) in
           λ same. g .distinct i j p lj (sym (getD-append-left fs (k ∷ []) 0 i lt) ∙ same ∙ getD-append-left fs (k ∷ []) 0 j lj));
     }
-
-pub clear-stays : (bs : List Bool) (k x : ℕ) → getD bs x false ≡ false → getD (set bs k false) x false ≡ false
-clear-stays [] k x h = h
-clear-stays (b ∷ bs) zero zero h = refl
-clear-stays (b ∷ bs) zero (suc x) h = h
-clear-stays (b ∷ bs) (suc k) zero h = h
-clear-stays (b ∷ bs) (suc k) (suc x) h = clear-stays bs k x h
-
-pub clear-there : (bs : List Bool) (k : ℕ) → getD (set bs k false) k false ≡ false
-clear-there [] k = refl
-clear-there (b ∷ bs) zero = refl
-clear-there (b ∷ bs) (suc k) = clear-there bs k

@@ -11,7 +11,7 @@ use Rattle.std.proofs.shelf.Tests.{eqb-true, eqb-false, eq-eqb, ne-eqb, false�
 use Rattle.std.proofs.shelf.Lists.{getD-append-left, getD-push}
 use Rattle.command.specs.Machine.{pick}
 use Rattle.command.proofs.Picks.{by-test}
-use Rattle.processor.proofs.Zeros.{zeros-at}
+use Rattle.processor.proofs.Defaults.{defaults-copies}
 use Rattle.processor.specs.Pages.{Inside, Free-inside, Apart, Distinct, Gathered, Stored, page-word}
 
 -- what is marked and what was gathered differ
@@ -119,4 +119,4 @@ module _ (ws cs cs₁ ts : List ℕ) (p f : ℕ) (hp : p < 256) (long : length t
       other false false x y g h ne = refl
 
 pub zeros-inside : (ts : List ℕ) (n : ℕ) → ts ≡ replicate n 0 → Inside ts
-zeros-inside ts n e i h = subst (λ z. getD z i 0 < 73728) (sym e) (subst (λ z. z < 73728) (sym (zeros-at n i)) (omega arith))
+zeros-inside ts n e i h = subst (λ z. getD z i 0 < 73728) (sym e) (subst (λ z. z < 73728) (sym (defaults-copies {A = ℕ} n 0 i)) (omega arith))

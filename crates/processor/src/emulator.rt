@@ -15,7 +15,7 @@ pub struct Emulator {
     pub(crate) slots: Vec<Option<Kept>>,
     ghost short: { vec-len program ≤ 4096 },
     ghost many: { vec-len slots ≡ 256 },
-    ghost for_code: { 4096 ≤ vec-cap program },
-    ghost for_input: { 65536 ≤ vec-cap fed },
-    ghost for_output: { 4096 ≤ vec-cap (state .log) },
+    ghost capacity: { 4096 ≤ vec-cap program },
+    ghost intake: { 65536 ≤ vec-cap fed },
+    ghost outlet: { 4096 ≤ vec-cap (state .log) },
 }

@@ -1,15 +1,15 @@
 // An emulator made, with all its room, and its slots emptied.
 ghost use mathlib.Core.Path.{_≡_};
 ghost use mathlib.Core.List.{[]};
-ghost use Prim.Native.Nat.{ℕ, _+_, _-_, _≤_, _<_};
+ghost use Prim.Native.Nat.{ℕ, _+_, _≤_, _<_};
 ghost use lib.ListN.{getD};
 ghost use Rattle.std.specs.Of.Vec.{vec-len, vec-items, vec-cap};
 ghost use Rattle.std.specs.Vec.{made};
 ghost use Rattle.std.specs.Results.{Cases};
 ghost use Rattle.std.specs.declared.option.Option.the-variants.{None};
-ghost use Rattle.command.specs.Machine.{State as Model, at-start};
+ghost use Rattle.command.specs.Machine.{at-start};
 ghost use Rattle.target.specs.Run.{fresh-target};
-ghost use Rattle.processor.specs.Like.{Base, Like};
+ghost use Rattle.processor.specs.Like.{Like};
 ghost use Rattle.processor.specs.Holding.{Held, room-of};
 use crate::emulator::Emulator;
 use crate::kept::Kept;
@@ -26,6 +26,19 @@ fn empty_slots(heap: Global) -> Result<Vec<Option<Kept>>, AllocError>
         slots.push(None)?;
     }
     Ok(slots)
+}
+
+// Room in the log for `n` numbers behind the first `put`, taken now, so that going on need not ask for it.
+pub(crate) fn make_room(log: &mut Vec<u32>, put: usize, n: u64) -> Result<(), AllocError>
+    ensures room { λ r. ⌜ Cases r (λ _. put + n ≤ vec-cap (now (log .exit))) (λ _. vec-cap (now (log .entry)) < put + n) ⌝ }
+    ensures grows { λ _. ⌜ vec-cap (now (log .entry)) ≤ vec-cap (now (log .exit)) ⌝ }
+    ensures items { λ _. ⌜ vec-items (now (log .exit)) ≡ vec-items (now (log .entry)) ⌝ }
+{
+    let Some(wanted) = put.checked_add(n as usize) else {
+        return Err(AllocError);
+    };
+    let more = wanted.saturating_sub(log.len());
+    log.reserve(more)
 }
 
 // Nothing is kept in any slot.
@@ -51,21 +64,6 @@ impl State {
             put: 0,
             log,
         })
-    }
-
-    // Room for `n` numbers more to go out, taken now, so that going on need not ask for it.
-    pub(crate) fn reserve(&mut self, n: u64) -> Result<(), AllocError>
-        ensures room { λ r. ⌜ Cases r (λ _. now (self .exit) .put + n ≤ vec-cap (now (self .exit) .log)) (λ _. vec-cap (now (self .entry) .log) - now (self .entry) .put < n) ⌝ }
-        ensures grows { λ _. ⌜ vec-cap (now (self .entry) .log) ≤ vec-cap (now (self .exit) .log) ⌝ }
-        ensures log { λ _. ⌜ vec-items (now (self .exit) .log) ≡ vec-items (now (self .entry) .log) ⌝ }
-        ensures words { λ _. ⌜ now (self .exit) .words ≡ now (self .entry) .words ⌝ }
-        ensures same { λ _. ⌜ ((b : Base) (s : Model) → Like b (now (self .entry)) s → Like b (now (self .exit)) s) ⌝ }
-    {
-        let Some(wanted) = self.put.checked_add(n as usize) else {
-            return Err(AllocError);
-        };
-        let more = wanted.saturating_sub(self.log.len());
-        self.log.reserve(more)
     }
 }
 

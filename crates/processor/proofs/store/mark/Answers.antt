@@ -4,11 +4,12 @@ use Prim.Native.Nat.{ℕ, _+_, _<_}
 use native.Mathlib.Omega.{arith}
 use borrow.Author.Count.{below-more}
 use lib.ListN.{getD, length}
-use Rattle.processor.proofs.Marks.{none-marked, one-marked, mark-stays, mark-there, clear-stays, clear-there}
+use Rattle.processor.proofs.Marks.{none-marked, one-marked, mark-stays, mark-there}
+use Rattle.processor.proofs.Defaults.{default-stays, default-there}
 use Rattle.processor.proofs.store.mark.Needs as need
 
 pub loop-u-again : need.loop-u-again
-loop-u-again c = below-more _ _ (λ k h. clear-stays (c .loop-u .used) (c .loop-u .u-index) k (c .loop-u .inv k h)) (clear-there (c .loop-u .used) (c .loop-u .u-index))
+loop-u-again c = below-more _ _ (λ k h. default-stays (c .loop-u .used) false (c .loop-u .u-index) k (c .loop-u .inv k h)) (default-there (c .loop-u .used) false (c .loop-u .u-index))
 
 pub loop-i-holds : need.loop-i-holds
 loop-i-holds c = (omega (arith, none-marked (c .loop-u .used) (λ k h. c .loop-u .inv k (omega arith))), λ j h. absurd (omega arith))

@@ -5,7 +5,7 @@ use lib.ListN.{getD, length, length-replicate}
 use Rattle.std.specs.Of.Vec.{vec-items}
 use Rattle.std.proofs.shelf.Results.{made-from-err}
 use Rattle.processor.specs.Held.{held-word}
-use Rattle.processor.proofs.Zeros.{zeros-at}
+use Rattle.processor.proofs.Defaults.{defaults-copies}
 use Rattle.processor.proofs.Flushes.{dirty-clean}
 use Rattle.processor.proofs.words.Words.zeros.Needs as need
 
@@ -20,4 +20,4 @@ ghost-result c =
     (omega (arith, v .ok .0), (dirty-clean (vec-items v) (held-word (c .in-Continue-pages .pages)), tt))
 
 pub returns : need.returns
-returns c = λ a. ap (λ z. getD z a 0) (c .in-Continue-items .ensures tt .exact (λ y e. e)) ∙ zeros-at 65536 a
+returns c = λ a. ap (λ z. getD z a 0) (c .in-Continue-items .ensures tt .exact (λ y e. e)) ∙ defaults-copies {A = ℕ} 65536 0 a
