@@ -1,1 +1,5 @@
 pub mod Words
+pub mod Names
+pub mod Reading
+pub mod Instructions
+pub mod Source
