@@ -2,3 +2,4 @@ pub mod Runs
 pub mod Values
 pub mod Places
 pub mod Lines
+pub mod Listings

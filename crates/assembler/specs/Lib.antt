@@ -3,3 +3,4 @@ pub mod Names
 pub mod Reading
 pub mod Instructions
 pub mod Source
+pub mod Listing
