@@ -16,6 +16,7 @@ use target::answers::Fault;
 use target::processor::Processor;
 
 const STRIDE: u64 = 4096;
+
 const STRIDES: u64 = 10000;
 
 fn told(fault: Fault) -> AnyError {
