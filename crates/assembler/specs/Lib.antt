@@ -4,3 +4,4 @@ pub mod Reading
 pub mod Instructions
 pub mod Source
 pub mod Listing
+pub mod Again
