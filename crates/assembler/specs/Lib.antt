@@ -5,3 +5,4 @@ pub mod Instructions
 pub mod Source
 pub mod Listing
 pub mod Again
+pub mod Spelling
