@@ -10,3 +10,4 @@ pub mod Bytes
 pub mod Exact
 pub mod Digits
 pub mod Programs
+pub mod Turns

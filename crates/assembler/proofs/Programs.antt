@@ -9,9 +9,17 @@ use native.Mathlib.Omega.{arith}
 use Rattle.std.proofs.shelf.Tests.{lt-ltb}
 use Rattle.std.specs.declared.option.Option.{Option}
 use Rattle.std.specs.declared.option.Option.the-variants.{None, Some}
+use Rattle.std.specs.Results.{ErrBy}
+use Rattle.std.specs.declared.alloc.Global.{Global}
+use Rattle.std.specs.declared.result.Result.{Result}
+use Rattle.std.specs.declared.result.Result.the-variants.{Ok, Err}
+use Rattle.std.specs.declared.vec.Vec.{Vec}
+use Rattle.command.specs.declared.code.Instr.{Instr as Code}
+use Rattle.assembler.specs.declared.spelled.ReadError.{ReadError}
+use Rattle.assembler.specs.declared.spelled.ReadError.the-variants.{NoProgram, NoMemory}
 use Rattle.command.specs.Machine.{every, flat, eight, Instr, load-number, copy, reckon, read, write, jump, jump-if, call, return, take-in, put-out, halt}
 use Rattle.command.specs.Plain.{instr-spelled, an-instr, a-word, a-reg}
-use Rattle.assembler.specs.Spelling.{Got, nothing, got, Reader, bind, byte, both, as-a, so-many, Way, below, register, place, word, two, bytes, instr-ways, instr, program, program-spelled, all-of, read-program, Spells}
+use Rattle.assembler.specs.Spelling.{Got, nothing, got, Reader, bind, byte, both, as-a, so-many, Way, below, register, place, word, two, bytes, instr-ways, instr, program, program-spelled, all-of, read-program, Spells, TakesAll, Reads}
 use Rattle.assembler.proofs.Exact.{Right, Rights, Exact, bind-at, exact-byte, exact-empty, exact-both, Ways-right, by-first-right, way-as, one, so-many-back, so-many-forth}
 use Rattle.assembler.proofs.Digits.{exact-below, exact-bytes, a-u64}
 
@@ -124,3 +132,33 @@ program-forth t is h s =
     ∙ ap all-of (bind-at (λ n u. so-many instr n u) (exact-bytes .forth (length is) (flat instr-spelled is) (lt-ltb (length is) 18446744073709551616 h)))
     ∙ ap (λ l. all-of (so-many instr (length is) l)) (sym (append-nil (flat instr-spelled is)))
     ∙ ap all-of (so-many-forth instr-spelled an-instr exact-instr is [] (s .1))
+
+-- the ways out of the code's reader
+module _ (t : List ℕ) where
+  pub no-count : bytes 8 0 t ≡ nothing → read-program t ≡ None
+  unfolding read-program
+  no-count e = ap (λ g. all-of (bind g (λ n u. so-many instr n u))) e
+
+  pub by-count : {n : ℕ} {u : List ℕ} → bytes 8 0 t ≡ got n u → read-program t ≡ all-of (so-many instr n u)
+  unfolding read-program
+  by-count e = ap (λ g. all-of (bind g (λ n u. so-many instr n u))) e
+
+  pub no-program : read-program t ≡ None → (is : List Instr) → length is < 18446744073709551616 → Spells t is → ⊥
+  no-program e is h s = let f = program-forth t is h s in let z : _≡_ {A = ℕ} 0 1 = cc in omega arith
+
+  pub stopped : (g : Got (List Instr)) (u : List ℕ) (e : ReadError) (r : Result (Vec Code Global) ReadError)
+      → read-program t ≡ all-of g → TakesAll g (Err e) u → ErrBy r (λ y. y ≡ e) → Reads t r
+  stopped g u e (Ok v) p a q = absurd q
+  stopped g u e (Err y) p a q = subst (λ (x : ReadError). Reads t (Err x)) (sym q) (at e a)
+    where
+      at : (e : ReadError) → TakesAll g (Err e) u → Reads t (Err e)
+      at NoProgram a = no-program (p ∙ ap all-of a)
+      at NoMemory a = tt
+
+pub nothing-left : {A : Type 0} (a : A) (u : List ℕ) → length u ≡ 0 → all-of (got a u) ≡ Some a
+nothing-left a [] h = refl
+nothing-left a (b ∷ u) h = absurd (omega arith)
+
+pub something-left : {A : Type 0} (a : A) (u : List ℕ) → (length u ≡ 0 → ⊥) → all-of (got a u) ≡ None
+something-left a [] h = absurd (h refl)
+something-left a (b ∷ u) h = refl

@@ -147,10 +147,16 @@ abbrev pub Takes : {A B : Type 0} → (B → A) → Got A → Option B → List 
 Takes f g None u = g ≡ nothing
 Takes f g (Some b) u = g ≡ got (f b) u
 
+-- the same of so many instructions; want of memory may always come
+abbrev pub TakesAll : Got (List Instr) → Result (Vec Code Global) ReadError → List ℕ → Type 0
+TakesAll g (Ok v) u = g ≡ got (codes (vec-items v)) u
+TakesAll g (Err NoProgram) u = g ≡ nothing
+TakesAll g (Err NoMemory) u = Unit {0}
+
 abbrev pub left : Spelled → List ℕ
 left s = now (s .rest)
 
--- a program's answer: the bytes are its spelling, or they spell no program; want of memory may always come
+-- a reader's answer: the bytes are the program's spelling, or they spell none
 abbrev pub Spells : List ℕ → List Instr → Type 0
 Spells t is = (program-spelled is ≡ t) × (every an-instr is ≡ true)
 

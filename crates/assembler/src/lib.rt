@@ -21,4 +21,5 @@ pub use mistakes::MistakeDisplay;
 pub use source::Assembly;
 pub use source::assemble;
 pub use spelled::ReadError;
+pub use spelled::read_program;
 pub use spelled::write_program;
