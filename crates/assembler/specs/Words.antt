@@ -110,3 +110,7 @@ in-base limit w (Some u) = value-below 16 limit u
 
 abbrev pub number-below : ℕ → List ℕ → Option ℕ
 number-below limit w = in-base limit w (hex-digits w)
+
+-- a byte as it is shown
+abbrev pub printable : ℕ → ℕ
+printable b = pick (within 32 126 b) b 63

@@ -7,7 +7,7 @@ use Rattle.command.specs.Codes.{code, codes}
 use Rattle.command.specs.Machine.{Instr}
 use Rattle.command.specs.declared.code.Instr.{Instr as Code}
 use Rattle.assembler.specs.Spelling.{instr, left, so-many, as-a}
-use Rattle.assembler.proofs.Lines.{each-push}
+use Rattle.assembler.proofs.Runs.{each-push}
 use Rattle.assembler.proofs.Turns.{left-start, left-more, left-none, left-end}
 use Rattle.assembler.proofs.spelled.read_instrs.Needs as need
 
