@@ -56,10 +56,14 @@ unless-over g t h = cond (is-over t) h g
 abbrev pub a-file : Reader (List ℕ)
 a-file t = unless-over (got (word (trimmed t)) (behind (trimmed t))) (trimmed t) (slip (trimmed t) FileName)
 
--- numbers to the end of the line, up to so many, behind those that were read
+-- a number that is to come in, if there may be so many more, and the text from the next word on
+abbrev pub a-value : ℕ → Reader ℕ
+a-value left t = cond (eqb left 0) (slip t FewerNumbers) (bind (a-number Value t) (λ v u. got v (trimmed u)))
+
+-- such numbers to the end of the line, behind those that were read
 unfoldable pub values : ℕ → List ℕ → Reader (List ℕ)
 values zero done t = unless-over (slip t FewerNumbers) t (got done t)
-values (suc n) done t = unless-over (bind (a-number Value t) (λ v u. values n (done ++ v ∷ []) (trimmed u))) t (got done t)
+values (suc n) done t = unless-over (bind (a-value (suc n) t) (λ v u. values n (done ++ v ∷ []) u)) t (got done t)
 
 abbrev pub all-values : Reader (List ℕ)
 all-values t = values 4096 [] (trimmed t)

@@ -34,12 +34,14 @@ impl Quantity {
 fn digit_of(b: u8, base: u64) -> Option<u64>
     ensures { λ r. ⌜ r ≡ digit base b ⌝ }
 {
-    let value = u64::from(match b {
-        b'0'..=b'9' => b - b'0',
-        b'a'..=b'f' => b - b'a' + 10,
-        b'A'..=b'F' => b - b'A' + 10,
-        _ => return None,
-    });
+    let value = u64::from(
+        match b {
+            b'0'..=b'9' => b - b'0',
+            b'a'..=b'f' => b - b'a' + 10,
+            b'A'..=b'F' => b - b'A' + 10,
+            _ => return None,
+        },
+    );
     if value < base { Some(value) } else { None }
 }
 

@@ -1,9 +1,9 @@
 // A line read: the request that it makes, or the first mistake in it.
 ghost use mathlib.Core.Path.{_≡_};
-ghost use Prim.Native.Nat.{_≤_};
+ghost use Prim.Native.Nat.{_≤_, _<_};
 ghost use Rattle.std.specs.Of.Vec.{vec-items};
 ghost use Rattle.std.specs.Vec.{made};
-ghost use Rattle.prompt.specs.Requests.{a-number, a-verb, numbers-in, asked-by, a-command, asked, request};
+ghost use Rattle.prompt.specs.Requests.{a-number, a-value, a-verb, numbers-in, asked-by, a-command, asked, request};
 ghost use Rattle.prompt.specs.Numbers.{most-of};
 ghost use Rattle.prompt.specs.Meant.{Takes, Asks, Reads};
 use crate::mistakes::Expected;
@@ -55,15 +55,14 @@ impl Numbers<'_> {
     {
         let mut numbers = Vec::new(heap);
         let mut rest = trim(self.text);
-        for i in 0..MOST_NUMBERS {
-            if is_over(rest) {
-                break;
-            }
-            let Ok((n, more)) = read_number(rest, Quantity::Value) else {
+        let mut left = MOST_NUMBERS;
+        while !is_over(rest) {
+            let Ok((n, more)) = read_value(rest, left) else {
                 return Ok(Vec::new(heap));
             };
-            numbers.push(n as u32)?;
-            rest = trim(more);
+            numbers.push(n)?;
+            rest = more;
+            left -= 1;
         }
         Ok(numbers)
     }
@@ -149,23 +148,31 @@ fn read_help(text: &[u8]) -> Result<(Request<'_>, &[u8]), Slip<'_>>
     Ok((Request::Help(Some(verb)), rest))
 }
 
+// A number that is to come in, if there may be so many more, and the rest of the line from the next word on.
+fn read_value(text: &[u8], left: usize) -> Result<(u32, &[u8]), Slip<'_>>
+    ensures value { λ r. ⌜ Takes (a-value left (now (text .entry))) r ⌝ }
+    ensures bound { λ r. ⌜ made r (λ _. 0 < left) ⌝ }
+{
+    if left == 0 {
+        return Err(Slip {
+            rest: text,
+            expected: Expected::FewerNumbers,
+        });
+    }
+    let (n, rest) = read_number(text, Quantity::Value)?;
+    Ok((n as u32, trim(rest)))
+}
+
 // The numbers to the end of the line.
 fn read_give(text: &[u8]) -> Result<(Request<'_>, &[u8]), Slip<'_>>
     ensures { λ r. ⌜ Asks (asked-by Verb.Give (now (text .entry))) r ⌝ }
 {
     let mut rest = trim(text);
-    for i in 0..MOST_NUMBERS {
-        if is_over(rest) {
-            break;
-        }
-        let (_, more) = read_number(rest, Quantity::Value)?;
-        rest = trim(more);
-    }
-    if !is_over(rest) {
-        return Err(Slip {
-            rest,
-            expected: Expected::FewerNumbers,
-        });
+    let mut left = MOST_NUMBERS;
+    while !is_over(rest) {
+        let (_, more) = read_value(rest, left)?;
+        rest = more;
+        left -= 1;
     }
     Ok((Request::Give(Numbers { text }), rest))
 }

@@ -10,16 +10,16 @@ pub returns-in-Break-n : need.returns-in-Break-n
 returns-in-Break-n c =
     record {
       value =
-        c .from-residual .ensures
-        ∙ (sym (digits-stop _ _ (c .loop-b .n) (c .args .text .now) (c .loop-b .b-index) (omega arith) (sym (c .in-Break-n .ensures tt .value))) ∙ c .loop-b .inv .0);
+          c .from-residual .ensures
+          ∙ (sym (digits-stop _ _ (c .loop-b .n) (c .args .text .now) (c .loop-b .b-index) (omega arith) (sym (c .in-Break-n .ensures tt .value))) ∙ c .loop-b .inv .0);
       bound = search needs;
     }
 
 pub loop-b-again : need.loop-b-again
 loop-b-again c = (
-    sym (digits-more _ _ (c .loop-b .n) (c .args .text .now) (c .loop-b .b-index) (omega arith) (sym (c .in-Continue-n .ensures tt .value))) ∙ c .loop-b .inv .0,
-    c .in-Continue-n .ensures tt .bound,
-  )
+  sym (digits-more _ _ (c .loop-b .n) (c .args .text .now) (c .loop-b .b-index) (omega arith) (sym (c .in-Continue-n .ensures tt .value))) ∙ c .loop-b .inv .0,
+  c .in-Continue-n .ensures tt .bound,
+)
 
 pub returns : need.returns
 returns c =
