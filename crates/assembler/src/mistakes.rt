@@ -1,0 +1,147 @@
+// What is wrong with a source text, and where.
+use crate::words::is_over;
+use crate::words::split_word;
+use std::alloc::AllocError;
+use std::alloc::Global;
+use std::alloc::Refused;
+use std::fmt;
+use std::str::from_utf8;
+
+// What was expected where something else stood.
+#[derive(Clone, Copy)]
+pub enum Expected {
+    Mnemonic,
+    Operation,
+    // After `not`.
+    Below,
+    Register,
+    Number,
+    Offset,
+    Place,
+    KnownLabel,
+    NewLabel,
+    LabelName,
+    LineEnd,
+    // No instruction past the last for which there is room.
+    Room,
+}
+
+pub impl fmt::Display for Expected as ExpectedDisplay {
+    fn fmt<W: fmt::Write>(&self, f: &mut fmt::Formatter<W>) -> fmt::Result {
+        f.write_str(self.words())
+    }
+}
+
+impl Expected {
+    fn words(self) -> &'static str {
+        match self {
+            Expected::Mnemonic => "an instruction",
+            Expected::Operation => "an operation, such as sum",
+            Expected::Below => "below, after not",
+            Expected::Register => "a register from 0 to 15",
+            Expected::Number => "a number below 4294967296",
+            Expected::Offset => "an offset below 65536",
+            Expected::Place => "a label or a place below 65536",
+            Expected::KnownLabel => "a label that some line has",
+            Expected::NewLabel => "a label that no line before has",
+            Expected::LabelName => "a label's name before the colon",
+            Expected::LineEnd => "the end of the line",
+            Expected::Room => "no more than 4096 instructions",
+        }
+    }
+}
+
+// The word that stands at the front; a sign that ends words, by itself; nothing at the end of the line or at a comment.
+fn found_at(text: &[u8]) -> &[u8] {
+    if is_over(text) {
+        return &text[0..0];
+    }
+    let (word, _) = split_word(text);
+    match text {
+        [_, ..] if word.is_empty() => &text[0..1],
+        _ => word,
+    }
+}
+
+// The first mistake in a text.
+#[derive(Drop)]
+pub struct Mistake {
+    // From 1.
+    pub line: usize,
+    // In bytes, from 1.
+    pub column: usize,
+    // Empty at the end of the line.
+    pub found: Vec<u8>,
+    pub expected: Expected,
+}
+
+impl Mistake {
+    // A mistake on the line of a number, with what is left of the line where it stands.
+    pub(crate) fn on(
+        heap: Global,
+        number: usize,
+        line: &[u8],
+        left: &[u8],
+        expected: Expected,
+    ) -> Result<Mistake, AllocError> {
+        let found = Vec::from_slice(heap, found_at(left))?;
+        Ok(Mistake {
+            line: number,
+            column: line.len().saturating_sub(left.len()).saturating_add(1),
+            found,
+            expected,
+        })
+    }
+}
+
+pub impl fmt::Display for Mistake as MistakeDisplay {
+    fn fmt<W: fmt::Write>(&self, f: &mut fmt::Formatter<W>) -> fmt::Result {
+        let line = self.line;
+        let column = self.column;
+        write!(f, "line {line}, column {column}: found ")?;
+        if self.found.is_empty() {
+            f.write_str("the end of the line")?;
+        } else {
+            match from_utf8(self.found.as_slice()) {
+                Ok(word) => write!(f, "'{word}'")?,
+                Err(_) => f.write_str("bytes that are no text")?,
+            }
+        }
+        let expected = self.expected;
+        write!(f, ", expected {expected}")
+    }
+}
+
+#[derive(Drop)]
+pub enum AssembleError {
+    Wrong(Mistake),
+    NoMemory,
+}
+
+impl AssembleError {
+    // The mistake, or the want of memory to tell it.
+    pub(crate) fn on(
+        heap: Global,
+        number: usize,
+        line: &[u8],
+        left: &[u8],
+        expected: Expected,
+    ) -> AssembleError {
+        match Mistake::on(heap, number, line, left, expected) {
+            Ok(mistake) => AssembleError::Wrong(mistake),
+            Err(_) => AssembleError::NoMemory,
+        }
+    }
+}
+
+pub impl From<AllocError> for AssembleError as AssembleErrorFromAlloc {
+    fn from(_error: AllocError) -> AssembleError {
+        AssembleError::NoMemory
+    }
+}
+
+pub impl<T: Drop> From<Refused<T>> for AssembleError as AssembleErrorFromRefused {
+    fn from(_refused: Refused<T>) -> AssembleError {
+        AssembleError::NoMemory
+    }
+}
