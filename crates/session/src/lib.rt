@@ -1,3 +1,7 @@
-// A debugging session on any processor: what it does at each command, and how that is shown.
+// A debugging session on any processor: what is typed, what is done at each command, and what is shown.
+pub mod conversation;
 pub mod debugger;
+mod files;
+mod help;
+mod input;
 pub mod show;

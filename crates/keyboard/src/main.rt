@@ -1,0 +1,23 @@
+// The debugger at the keyboard: opens a session on a program's file, or on none, and carries out what is typed.
+mod arguments;
+mod standin;
+
+use arguments::Arguments;
+use session::conversation::Conversation;
+use session::debugger::Session;
+use standin::Standin;
+use standin::StandinProcessor;
+use std::error::AnyError;
+
+fn run(rt: &LibcRuntime) -> Result<(), AnyError> {
+    let arguments = Arguments::given(rt)?;
+    let processor = Standin::new(rt.alloc())?;
+    let mut conversation = Conversation::new(Session::new(processor), arguments.echo);
+    conversation.open(rt, &arguments.file)?;
+    conversation.hold(rt)?;
+    Ok(())
+}
+
+fn main(rt: LibcRuntime) -> Result<(), AnyError> {
+    rt.report(run(&rt))
+}
