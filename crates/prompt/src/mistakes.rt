@@ -18,7 +18,7 @@ pub enum Expected {
 
 // A mistake where it was found: the line from there on.
 #[derive(Clone, Copy)]
-pub struct Slip<'a> {
+pub(crate) struct Slip<'a> {
     pub rest: &'a [u8],
     pub expected: Expected,
 }
@@ -92,8 +92,8 @@ pub impl fmt::Display for Quantity as QuantityDisplay {
             Quantity::Steps => "a number of steps",
             Quantity::Value => "a number",
             Quantity::Address => "an address",
-            Quantity::First => "which one to begin with",
-            Quantity::Count => "how many",
+            Quantity::First => "the number of the first one",
+            Quantity::Count => "a count",
         };
         let most = self.most();
         write!(f, "{name} from 0 to {most}")

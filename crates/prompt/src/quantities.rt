@@ -17,7 +17,7 @@ pub enum Quantity {
 
 impl Quantity {
     // The largest that is allowed.
-    pub fn most(self) -> u64
+    pub(crate) fn most(self) -> u64
         ensures { λ r. ⌜ r ≡ most-of self ⌝ }
     {
         match self {
@@ -75,7 +75,7 @@ fn is_hexadecimal(word: &[u8]) -> bool
 }
 
 // The number that a word spells, decimal or hexadecimal, if it is not too large.
-pub fn number_of(word: &[u8], most: u64) -> Option<u64>
+pub(crate) fn number_of(word: &[u8], most: u64) -> Option<u64>
     ensures value { λ r. ⌜ r ≡ number most (now (word .entry)) ⌝ }
     ensures bound { λ r. ⌜ found r (λ m. m ≤ most) ⌝ }
 {

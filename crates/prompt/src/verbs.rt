@@ -30,7 +30,7 @@ pub const VERBS: [Verb; 9] = [
 
 // How a word and the spelling of a command agree.
 #[derive(Clone, Copy)]
-pub enum Fit {
+pub(crate) enum Fit {
     No,
     Front,
     Whole,
@@ -38,7 +38,7 @@ pub enum Fit {
 
 // Which command a word means: none, the one that it is the front of, more than one, or the one that it spells out.
 #[derive(Clone, Copy)]
-pub enum Choice {
+pub(crate) enum Choice {
     No,
     One(Verb),
     Several,
@@ -63,7 +63,7 @@ impl Verb {
     }
 
     // Whether a word is the front of this one's spelling, or all of it.
-    pub fn fit(self, word: &[u8]) -> Fit
+    pub(crate) fn fit(self, word: &[u8]) -> Fit
         ensures { λ r. ⌜ r ≡ fits (now (word .entry)) (spelling self) ⌝ }
     {
         let spelled = self.spelled().as_bytes();
@@ -101,7 +101,7 @@ impl Choice {
 }
 
 // Which command a word means.
-pub fn choose(word: &[u8]) -> Choice
+pub(crate) fn choose(word: &[u8]) -> Choice
     ensures { λ r. ⌜ r ≡ choice (now (word .entry)) verbs Choice.No ⌝ }
 {
     let mut chosen = Choice::No;

@@ -46,7 +46,7 @@ fn letters(text: &[u8]) -> usize
 }
 
 // The text from its first word or comment on.
-pub fn trim(text: &[u8]) -> &[u8]
+pub(crate) fn trim(text: &[u8]) -> &[u8]
     ensures { λ r. ⌜ now r ≡ trimmed (now (text .entry)) ⌝ }
 {
     let (_, rest) = text.split_at(blanks(text));
@@ -54,7 +54,7 @@ pub fn trim(text: &[u8]) -> &[u8]
 }
 
 // The word that a text begins with, and what stands behind it.
-pub fn split_word(text: &[u8]) -> (&[u8], &[u8])
+pub(crate) fn split_word(text: &[u8]) -> (&[u8], &[u8])
     ensures front { λ r. ⌜ now (r .0) ≡ word (now (text .entry)) ⌝ }
     ensures back { λ r. ⌜ now (r .1) ≡ behind (now (text .entry)) ⌝ }
 {
@@ -62,7 +62,7 @@ pub fn split_word(text: &[u8]) -> (&[u8], &[u8])
 }
 
 // Whether nothing but a comment is left of a trimmed text.
-pub fn is_over(text: &[u8]) -> bool
+pub(crate) fn is_over(text: &[u8]) -> bool
     ensures { λ r. ⌜ r ≡ is-over (now (text .entry)) ⌝ }
 {
     match text {

@@ -96,7 +96,8 @@ impl<P: Processor + Drop> Conversation<P> {
         match self.session.load(program) {
             Ok(()) => {
                 let count = program.len();
-                println!(rt, "{name}: {count} instructions")
+                let plural = if count == 1 { "" } else { "s" };
+                println!(rt, "{name}: {count} instruction{plural}")
             }
             Err(refusal) => println!(rt, "{name}: {refusal}"),
         }
