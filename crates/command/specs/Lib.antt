@@ -2,3 +2,5 @@ pub mod Machine
 pub mod Plain
 pub mod Codes
 pub mod Breaks
+pub mod Statements
+pub mod Exact

@@ -1,3 +1,4 @@
 // Commands, breaks and programs: the lowest layer, with the definitions of the processor and of the plain debugger.
 pub mod breaks;
 pub mod code;
+pub mod statements;

@@ -22,10 +22,6 @@ Does a ev by before after =
     (t : Target) → before t →
     (t₁ : Target) × after t₁ × ((go : World → Event → List (List ℕ) → ℕ → Ran) (ss : List (List ℕ)) (k : ℕ) (m : List ℕ) → one-act go t ss k m a ≡ go (world t₁ m) ev ss (k + by))
 
--- nothing changed
-abbrev pub Same : (before after : Target → Type 0) → Type 0
-Same before after = (t : Target) → before t → after t
-
 -- the act is refused: a run ends there with a fault, and nothing changed
 abbrev pub Refuses : Act → (before after : Target → Type 0) → Type 0
 Refuses a before after =
@@ -60,7 +56,7 @@ Goes n bs room before after (Err TooManyBreaks) = (64 < length bs) × Refuses (g
 Goes n bs room before after (Err NoSuchSlot) = ⊥
 Goes n bs room before after (Err EmptySlot) = ⊥
 Goes n bs room before after (Err TooManyNumbers) = ⊥
-Goes n bs room before after (Err NoMemory) = (length bs ≤ 64) × (room < n) × Same before after
+Goes n bs room before after (Err NoMemory) = (length bs ≤ 64) × ((t : Target) → before t → (room < n) × after t)
 
 abbrev pub Keeps : ℕ → (before after : Target → Type 0) → {A : Type 0} → Result A Fault → Type 0
 Keeps j before after (Ok x) = (j < 256) × Does (keeps j) next 0 before after

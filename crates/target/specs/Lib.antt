@@ -1,3 +1,4 @@
 pub mod Run
+pub mod Statements
 pub mod Whys
 pub mod Acts

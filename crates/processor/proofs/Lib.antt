@@ -1,0 +1,13 @@
+pub mod Reckons
+pub mod Ops
+pub mod Writes
+pub mod Folds
+pub mod Copies
+pub mod Defaults
+pub mod Marks
+pub mod Rows
+pub mod Flushes
+pub mod Laying
+pub mod Instructions
+pub mod Goes
+pub mod WhyNot

@@ -1,0 +1,5 @@
+pub mod Reckons
+pub mod Pages
+pub mod Held
+pub mod Like
+pub mod Holding
