@@ -14,15 +14,19 @@ pub returns : need.returns
 unfolding state-at is-running slot-of
 returns c =
     let m = c .in-Continue-state .state in
-    let s = c .in-Continue-state .ensures tt in
-    (omega (arith, s .0, s .2),
-    (0, record {
-      program = sym (ap codes (c .in-Continue-program .ensures tt .made .0));
-      fed = sym (c .in-Continue-fed .ensures tt .made .0);
-      runs = refl;
-      log = s .1;
-      state = subst (λ z. Like (record { log = z; pages = m .words .pages }) m at-start) (sym (s .1)) (s .3);
-      on-run = (0, omega arith, refl);
-      slots = λ k h. subst (λ z. In-slot [] [] 0 (m .words .pages) k z []) (sym (c .in-Continue-slots .ensures tt .1 k)) refl;
-      no-more = λ k h. refl;
-    }))
+    let s = c .in-Continue-state .ensures tt in (
+      omega (arith, s .0, s .2),
+      (
+        0,
+        record {
+          program = sym (ap codes (c .in-Continue-program .ensures tt .made .0));
+          fed = sym (c .in-Continue-fed .ensures tt .made .0);
+          runs = refl;
+          log = s .1;
+          state = subst (λ z. Like (record { log = z; pages = m .words .pages }) m at-start) (sym (s .1)) (s .3);
+          on-run = (0, omega arith, refl);
+          slots = λ k h. subst (λ z. In-slot [] [] 0 (m .words .pages) k z []) (sym (c .in-Continue-slots .ensures tt .1 k)) refl;
+          no-more = λ k h. refl;
+        },
+      ),
+    )
