@@ -2,36 +2,37 @@
 use mathlib.Core.Path.{_≡_, refl, sym, ap, _∙_}
 use mathlib.Core.Bool.{Bool, true, false}
 use mathlib.Core.List.{List, [], _∷_, _++_, append-nil, append-assoc}
-use Prim.Native.Nat.{ℕ, suc, _+_, _-_, _<_, _≤_}
+use Prim.Native.Nat.{ℕ, zero, suc, _+_, _-_, _<_, _≤_}
 use native.Mathlib.Omega.{arith}
 use lib.ListN.{length, getD, take, drop}
 use Rattle.std.proofs.shelf.Lists.{take-more, drop-more, take-all, drop-all, take-rest}
-use Rattle.std.proofs.shelf.Tests.{eq-eqb, cases-bool}
+use Rattle.std.proofs.shelf.Tests.{eq-eqb, eqb-true, cases-bool, and-parts}
+use Rattle.std.proofs.shelf.Ways.{tells}
 use Rattle.std.specs.Options.{valueOr}
-use Rattle.assembler.specs.declared.words.Class.the-variants.{Line}
+use Rattle.assembler.specs.declared.words.Class.the-variants.{Line, Name}
 use mathlib.Core.Logic.{⊎-elim}
 use lib.Dec.{eqb}
 use Rattle.std.specs.declared.option.Option.the-variants.{None, Some}
 use Rattle.command.specs.Machine.{pick}
-use Rattle.assembler.specs.Words.{front, past, behind, in-class, after-line}
+use Rattle.assembler.specs.Words.{front, past, behind, in-class, after-line, a-name, letter}
 
 -- so far all bytes are of the front
 abbrev pub Run : (ℕ → Bool) → List ℕ → ℕ → Type 0
 Run p t i = (front p t ≡ take i t ++ front p (drop i t)) × (past p t ≡ past p (drop i t))
 
-front-on : (p : ℕ → Bool) (b : ℕ) (bs : List ℕ) → p b ≡ true → front p (b ∷ bs) ≡ b ∷ front p bs
+pub front-on : (p : ℕ → Bool) (b : ℕ) (bs : List ℕ) → p b ≡ true → front p (b ∷ bs) ≡ b ∷ front p bs
 unfolding front
 front-on p b bs e = rw e
 
-front-off : (p : ℕ → Bool) (b : ℕ) (bs : List ℕ) → p b ≡ false → front p (b ∷ bs) ≡ []
+pub front-off : (p : ℕ → Bool) (b : ℕ) (bs : List ℕ) → p b ≡ false → front p (b ∷ bs) ≡ []
 unfolding front
 front-off p b bs e = rw e
 
-past-on : (p : ℕ → Bool) (b : ℕ) (bs : List ℕ) → p b ≡ true → past p (b ∷ bs) ≡ past p bs
+pub past-on : (p : ℕ → Bool) (b : ℕ) (bs : List ℕ) → p b ≡ true → past p (b ∷ bs) ≡ past p bs
 unfolding past
 past-on p b bs e = rw e
 
-past-off : (p : ℕ → Bool) (b : ℕ) (bs : List ℕ) → p b ≡ false → past p (b ∷ bs) ≡ b ∷ bs
+pub past-off : (p : ℕ → Bool) (b : ℕ) (bs : List ℕ) → p b ≡ false → past p (b ∷ bs) ≡ b ∷ bs
 unfolding past
 past-off p b bs e = rw e
 
@@ -83,3 +84,20 @@ after-less (b ∷ bs) h =
     let k = after-le bs in
     ⊎-elim (λ (e : eqb b 10 ≡ true). let f = past-off (in-class Line) b bs (rw e) in rw f (simp e (omega arith)))
     (λ (e : eqb b 10 ≡ false). let f = past-on (in-class Line) b bs (rw e) in rw f (omega arith)) (cases-bool (eqb b 10))
+
+-- where nothing is past a front, each byte is of it
+past-all : (p : ℕ → Bool) (t : List ℕ) → length (past p t) ≡ 0 → (i : ℕ) → i < length t → p (getD t i 0) ≡ true
+unfolding past
+past-all p [] h i l = absurd (omega arith)
+past-all p (b ∷ bs) h zero l = ⊎-elim (λ (e : p b ≡ true). e) (λ (e : p b ≡ false). absurd (omega (arith, simp e at h))) (cases-bool (p b))
+past-all p (b ∷ bs) h (suc i) l =
+    ⊎-elim (λ (e : p b ≡ true). past-all p bs (simp e at h) i (omega arith)) (λ (e : p b ≡ false). absurd (omega (arith, simp e at h))) (cases-bool (p b))
+
+pub name-ascii : (w : List ℕ) → a-name w ≡ true → (i : ℕ) → i < length w → getD w i 0 < 128
+name-ascii w h i l =
+    let a = and-parts (letter (getD w 0 0)) (eqb (length (past (in-class Name) w)) 0) h in
+    let e = past-all (in-class Name) w (eqb-true _ _ (a .1)) i l in
+    small (getD w i 0) e
+  where
+    small : (b : ℕ) → in-class Name b ≡ true → b < 128
+    small b e = grind (arith, tells)

@@ -1,1 +1,6 @@
 pub mod Words
+pub mod Names
+pub mod Reading
+pub mod Instructions
+pub mod Source
+pub mod Listing

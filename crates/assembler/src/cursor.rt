@@ -1,4 +1,8 @@
 // What is left of a line while it is read. Where a reading goes wrong, the cursor stays at what is wrong.
+ghost use mathlib.Core.Path.{_≡_};
+ghost use Rattle.std.specs.Options.{mapped};
+ghost use Rattle.assembler.specs.Words.{spaced, separated};
+ghost use Rattle.assembler.specs.Reading.{Took, itself, left, label, ended, shown-name, Named-alone};
 use crate::mistakes::Expected;
 use crate::words::behind;
 use crate::words::is_name;
@@ -13,16 +17,23 @@ pub(crate) struct Cursor<'t> {
 }
 
 impl<'t> Cursor<'t> {
-    pub(crate) fn skip_blanks(&mut self) {
+    pub(crate) fn skip_blanks(&mut self)
+        ensures { λ _. ⌜ left (now (self .exit)) ≡ spaced (left (now (self .entry))) ⌝ }
+    {
         self.rest = past_blanks(self.rest);
     }
 
-    pub(crate) fn skip_separator(&mut self) {
+    pub(crate) fn skip_separator(&mut self)
+        ensures { λ _. ⌜ left (now (self .exit)) ≡ separated (left (now (self .entry))) ⌝ }
+    {
         self.rest = past_separator(self.rest);
     }
 
     // The name of the line's label, if it has one.
-    pub(crate) fn label(&mut self) -> Result<Option<&'t [u8]>, Expected> {
+    pub(crate) fn label(&mut self) -> Result<Option<&'t [u8]>, Expected>
+        ensures read { λ r. ⌜ Took shown-name (label (left (now (self .entry)))) r (left (now (self .exit))) ⌝ }
+        ensures named { λ r. ⌜ Named-alone r ⌝ }
+    {
         self.skip_blanks();
         let (word, rest) = split_word(self.rest);
         let Some(more) = behind(rest, b':') else {
@@ -36,7 +47,9 @@ impl<'t> Cursor<'t> {
     }
 
     // Nothing more on the line but a comment.
-    pub(crate) fn end(&mut self) -> Result<(), Expected> {
+    pub(crate) fn end(&mut self) -> Result<(), Expected>
+        ensures { λ r. ⌜ Took itself (ended (left (now (self .entry)))) r (left (now (self .exit))) ⌝ }
+    {
         self.skip_blanks();
         if is_over(self.rest) {
             Ok(())

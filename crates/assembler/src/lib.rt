@@ -1,12 +1,14 @@
 // Assembler and disassembler of the processor's instructions: text to programs, and programs to text.
 mod cursor;
 mod instruction;
+mod labels;
 mod listing;
 mod mistakes;
 mod names;
 mod source;
 mod words;
 
+pub use labels::Label;
 pub use listing::Listed;
 pub use listing::ListedDisplay;
 pub use listing::disassemble;
@@ -16,5 +18,4 @@ pub use mistakes::ExpectedDisplay;
 pub use mistakes::Mistake;
 pub use mistakes::MistakeDisplay;
 pub use source::Assembly;
-pub use source::Label;
 pub use source::assemble;

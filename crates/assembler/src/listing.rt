@@ -1,4 +1,10 @@
 // Programs as text that can be assembled again.
+ghost use mathlib.Core.Path.{_≡_};
+ghost use Rattle.std.specs.Of.String.{string-bytes};
+ghost use Rattle.std.specs.Vec.{made};
+ghost use Rattle.std.specs.declared.option.Option.the-variants.{Some};
+ghost use Rattle.command.specs.Codes.{code, codes};
+ghost use Rattle.assembler.specs.Listing.{instr-text, listing};
 use crate::names::comparison_name;
 use crate::names::op_name;
 use command::code::Instr;
@@ -11,6 +17,8 @@ use std::fmt;
 pub struct Listed(pub Instr);
 
 pub impl fmt::Display for Listed as ListedDisplay {
+    ghost shown = { λ x. Some (instr-text (code (x .0))) };
+
     fn fmt<W: fmt::Write>(&self, f: &mut fmt::Formatter<W>) -> fmt::Result {
         match self.0 {
             Instr::Load(to, number) => write!(f, "load {}, {number}", to.number),
@@ -52,7 +60,9 @@ pub impl fmt::Display for Listed as ListedDisplay {
 }
 
 // A line for each instruction.
-pub fn disassemble(heap: Global, program: &[Instr]) -> Result<String, AllocError> {
+pub fn disassemble(heap: Global, program: &[Instr]) -> Result<String, AllocError>
+    ensures { λ r. ⌜ made r (λ t. string-bytes t ≡ listing (codes (now (program .entry)))) ⌝ }
+{
     let mut text = String::new(heap);
     for instr in program {
         let line = format!(heap, "{}\n", Listed(*instr))?;

@@ -1,4 +1,8 @@
 // What is wrong with a source text, and where.
+ghost use mathlib.Core.Path.{_≡_};
+ghost use Rattle.std.specs.Vec.{made};
+ghost use Rattle.assembler.specs.declared.mistakes.AssembleError.the-variants.{NoMemory};
+ghost use Rattle.assembler.specs.Source.{found-at, mistake-on, mistake-of, Tells};
 use crate::words::is_over;
 use crate::words::split_word;
 use std::alloc::AllocError;
@@ -52,7 +56,9 @@ impl Expected {
 }
 
 // The word that stands at the front; a sign that ends words, by itself; nothing at the end of the line or at a comment.
-fn found_at(text: &[u8]) -> &[u8] {
+fn found_at(text: &[u8]) -> &[u8]
+    ensures { λ r. ⌜ now r ≡ found-at (now (text .entry)) ⌝ }
+{
     if is_over(text) {
         return &text[0..0];
     }
@@ -83,11 +89,13 @@ impl Mistake {
         line: &[u8],
         left: &[u8],
         expected: Expected,
-    ) -> Result<Mistake, AllocError> {
+    ) -> Result<Mistake, AllocError>
+        ensures { λ r. ⌜ made r (λ m. mistake-on number (now (line .entry)) expected (now (left .entry)) ≡ mistake-of m) ⌝ }
+    {
         let found = Vec::from_slice(heap, found_at(left))?;
         Ok(Mistake {
             line: number,
-            column: line.len().saturating_sub(left.len()).saturating_add(1),
+            column: line.len().saturating_sub(left.len()) + 1,
             found,
             expected,
         })
@@ -126,7 +134,9 @@ impl AssembleError {
         line: &[u8],
         left: &[u8],
         expected: Expected,
-    ) -> AssembleError {
+    ) -> AssembleError
+        ensures { λ r. ⌜ Tells (mistake-on number (now (line .entry)) expected (now (left .entry))) r ⌝ }
+    {
         match Mistake::on(heap, number, line, left, expected) {
             Ok(mistake) => AssembleError::Wrong(mistake),
             Err(_) => AssembleError::NoMemory,
@@ -135,12 +145,16 @@ impl AssembleError {
 }
 
 pub impl From<AllocError> for AssembleError as AssembleErrorFromAlloc {
+    ghost converts = { λ _ y. y ≡ NoMemory };
+
     fn from(_error: AllocError) -> AssembleError {
         AssembleError::NoMemory
     }
 }
 
 pub impl<T: Drop> From<Refused<T>> for AssembleError as AssembleErrorFromRefused {
+    ghost converts = { λ _ y. y ≡ NoMemory };
+
     fn from(_refused: Refused<T>) -> AssembleError {
         AssembleError::NoMemory
     }

@@ -1,18 +1,17 @@
 // The debugger at the keyboard: opens a session on a program's file, or on none, and carries out what is typed.
 mod arguments;
-mod standin;
 
 use arguments::Arguments;
+use processor::acting::EmulatorProcessor;
+use processor::emulator::Emulator;
 use session::conversation::Conversation;
 use session::debugger::Session;
-use standin::Standin;
-use standin::StandinProcessor;
 use std::error::AnyError;
 
 fn run(rt: &LibcRuntime) -> Result<(), AnyError> {
     let arguments = Arguments::given(rt)?;
-    let processor = Standin::new(rt.alloc())?;
-    let mut conversation = Conversation::new(Session::new(processor), arguments.echo);
+    let emulator = Emulator::new(rt.alloc())?;
+    let mut conversation = Conversation::new(Session::new(emulator), arguments.echo);
     conversation.open(rt, &arguments.file)?;
     conversation.hold(rt)?;
     Ok(())

@@ -11,3 +11,5 @@ pub mod Laying
 pub mod Instructions
 pub mod Goes
 pub mod WhyNot
+pub mod Holds
+pub mod Promises

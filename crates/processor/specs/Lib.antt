@@ -3,3 +3,4 @@ pub mod Pages
 pub mod Held
 pub mod Like
 pub mod Holding
+pub mod Telling

@@ -1,4 +1,5 @@
 // A processor of our own, with 256 slots for kept states.
+pub mod acting;
 pub mod arith;
 mod copying;
 pub mod emulator;
@@ -12,5 +13,6 @@ mod state;
 mod steps;
 mod stops;
 mod store;
+mod telling;
 mod words;
 mod writing;
