@@ -20,7 +20,7 @@ use std::str::from_utf8;
 use target::processor::Processor;
 
 // Many steps take long: after so many it says how far it is.
-const STEPS_BETWEEN_SIGNS: u64 = 50_000_000;
+const STEPS_BETWEEN_SIGNS: u64 = 250_000_000;
 
 #[derive(Drop)]
 pub struct Conversation<P> {
