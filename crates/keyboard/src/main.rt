@@ -2,9 +2,9 @@
 mod arguments;
 
 use arguments::Arguments;
+use console::conversation::Conversation;
 use processor::acting::EmulatorProcessor;
 use processor::emulator::Emulator;
-use session::conversation::Conversation;
 use session::debugger::Session;
 use std::error::AnyError;
 

@@ -1,7 +1,3 @@
-// A debugging session on any processor: what is typed, what is done at each command, and what is shown.
-pub mod conversation;
+// A debugging session on any processor: what each command does to it.
 pub mod debugger;
-mod files;
-mod help;
-mod input;
 pub mod show;
