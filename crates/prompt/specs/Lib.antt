@@ -1,0 +1,5 @@
+pub mod Words
+pub mod Verbs
+pub mod Numbers
+pub mod Requests
+pub mod Meant

@@ -1,0 +1,6 @@
+// What is typed at the prompt: requests, and mistakes with the place where they stand.
+pub mod mistakes;
+pub mod quantities;
+pub mod requests;
+pub mod verbs;
+mod words;
