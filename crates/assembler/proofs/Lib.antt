@@ -11,3 +11,4 @@ pub mod Exact
 pub mod Digits
 pub mod Programs
 pub mod Turns
+pub mod Loads
