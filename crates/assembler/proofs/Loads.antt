@@ -104,6 +104,7 @@ comparison-fits t =
   where
     second : (u : List ℕ) → Fits (Below 4) (below u)
     second u = pick-both (Fits (Below 4)) (sameBytes (word u) (chars "below")) _ _ (λ e. omega arith) (λ e. tt)
+
     named : (o : Option ℕ) → Below 4 o → Fits (Below 4) (if-named o t (past-word t))
     named None h = tt
     named (Some c) h = h
@@ -121,9 +122,9 @@ place-of-below (l ∷ ls) w h = pick-both (Below 65536) (sameBytes (l .name) w) 
 module _ (ls : List Label) (fine : Places ls) where
   place-fits : (t : List ℕ) → Fits (Under 65536) (place ls t)
   place-fits t =
-    meant-fits 65536 (place-named ls (word t)) t (past-word t)
-    (pick-both (OkBelow 65536) (a-name (word t)) _ _ (λ e. ok-below 65536 expected.KnownLabel (place-of ls (word t)) (place-of-below ls (word t) fine))
-    (λ e. ok-below 65536 expected.Place (number-below 65536 (word t)) (number-below-below 65536 (word t) (omega arith))))
+      meant-fits 65536 (place-named ls (word t)) t (past-word t)
+      (pick-both (OkBelow 65536) (a-name (word t)) _ _ (λ e. ok-below 65536 expected.KnownLabel (place-of ls (word t)) (place-of-below ls (word t) fine))
+      (λ e. ok-below 65536 expected.Place (number-below 65536 (word t)) (number-below-below 65536 (word t) (omega arith))))
 
 abbrev pub Fit : Instr → Type 0
 Fit i = an-instr i ≡ true
@@ -166,20 +167,20 @@ module _ (ls : List Label) (fine : Places ls) where
   unfolding an-instr
   jump-by-fit None t h = to-place-fit jump (λ k l. lt-ltb k 65536 l) t
   jump-by-fit (Some c) t h =
-    fits-bind (Under 16) Fit (register (spaced t)) _ (register-fits (spaced t)) (λ k u a.
-    fits-bind (Under 16) Fit (next-register u) _ (register-fits (separated u)) (λ j v b.
-    fits-bind (Under 65536) Fit (place ls (separated v)) _ (place-fits ls fine (separated v)) (λ n w l. fit-jump-if c k j n h a b l)))
+      fits-bind (Under 16) Fit (register (spaced t)) _ (register-fits (spaced t)) (λ k u a.
+      fits-bind (Under 16) Fit (next-register u) _ (register-fits (separated u)) (λ j v b.
+      fits-bind (Under 65536) Fit (place ls (separated v)) _ (place-fits ls fine (separated v)) (λ n w l. fit-jump-if c k j n h a b l)))
 
   operands-fit : (m : Mnemonic) (t : List ℕ) → Fits Fit (operands ls m t)
   unfolding an-instr
   operands-fit Load t =
-    fits-bind (Under 16) Fit (register t) _ (register-fits t) (λ k u h. fits-bind (Under 4294967296) Fit (next-number u) _ (number-fits u) (λ n v g. fit-load k n h g))
+      fits-bind (Under 16) Fit (register t) _ (register-fits t) (λ k u h. fits-bind (Under 4294967296) Fit (next-number u) _ (number-fits u) (λ n v g. fit-load k n h g))
   operands-fit Copied t =
-    fits-bind (Under 16) Fit (register t) _ (register-fits t) (λ k u h. fits-bind (Under 16) Fit (next-register u) _ (register-fits (separated u)) (λ j v g. fit-copy k j h g))
+      fits-bind (Under 16) Fit (register t) _ (register-fits t) (λ k u h. fits-bind (Under 16) Fit (next-register u) _ (register-fits (separated u)) (λ j v g. fit-copy k j h g))
   operands-fit Reckon t =
-    fits-bind (Under 10) Fit (operation t) _ (operation-fits t) (λ o s l.
-    fits-bind (Under 16) Fit (register (spaced s)) _ (register-fits (spaced s)) (λ k u h.
-    fits-bind (Under 16) Fit (next-register u) _ (register-fits (separated u)) (λ j v g. fit-reckon o k j l h g)))
+      fits-bind (Under 10) Fit (operation t) _ (operation-fits t) (λ o s l.
+      fits-bind (Under 16) Fit (register (spaced s)) _ (register-fits (spaced s)) (λ k u h.
+      fits-bind (Under 16) Fit (next-register u) _ (register-fits (separated u)) (λ j v g. fit-reckon o k j l h g)))
   operands-fit Read t = word-operands-fit read (λ k b n h g l. fit-word k b n h g l) t
   operands-fit Write t = word-operands-fit write (λ k b n h g l. fit-word k b n h g l) t
   operands-fit Jump t = fits-bind (Below 4) Fit (comparison t) (jump-by ls) (comparison-fits t) (λ o u h. jump-by-fit o u h)
@@ -192,9 +193,9 @@ module _ (ls : List Label) (fine : Places ls) where
   pub instruction-fit : (t : List ℕ) → Fits Fit (instruction ls t)
   unfolding instruction
   instruction-fit t =
-    fits-bind (λ m. Unit {0}) Fit (mnemonic t) _ (some (mnemonic t)) (λ m u z.
-    fits-bind Fit Fit (operands ls m (spaced u)) _ (operands-fit m (spaced u)) (λ i v h.
-    fits-bind (λ z. Unit {0}) Fit (ended v) _ (some (ended v)) (λ y w z. h)))
+      fits-bind (λ m. Unit {0}) Fit (mnemonic t) _ (some (mnemonic t)) (λ m u z.
+      fits-bind Fit Fit (operands ls m (spaced u)) _ (operands-fit m (spaced u)) (λ i v h.
+      fits-bind (λ z. Unit {0}) Fit (ended v) _ (some (ended v)) (λ y w z. h)))
     where
       some : {A : Type 0} (g : Got A) → Fits (λ a. Unit {0}) g
       some (got a u) = tt
@@ -233,6 +234,7 @@ noted n k ls t h = go (label t)
         at true b e = (omega arith, h)
         at false true e = let l = ltb-true k 4096 e in (refl, omega arith)
         at false false e = tt
+
     go : (g : Got (Option (List ℕ))) → Noted k (has g) (on-line n t (bind (bind g (unless-known ls t)) (λ o t. then-placed o t (next-place k t))))
     go (wrong e u) = tt
     go (got None u) = next None u
@@ -256,7 +258,7 @@ found n k ls [] h p = (p, omega arith)
 found n k ls (t ∷ ts) h p = go (line-label n ls k t) (noted n k ls t h) (λ o j l. found (n + 1) j (with-label ls k o) ts l (places-with ls k o (omega arith) p))
   where
     go : (r : Result (Option (List ℕ) × ℕ) Mistake) → Noted k (has (label t)) r
-      → ((o : Option (List ℕ)) (j : ℕ) → j ≤ 4096 → Found j ts (find-labels (n + 1) (with-label ls k o) j ts)) → Found k (t ∷ ts) (finds n ls k ts r)
+        → ((o : Option (List ℕ)) (j : ℕ) → j ≤ 4096 → Found j ts (find-labels (n + 1) (with-label ls k o) j ts)) → Found k (t ∷ ts) (finds n ls k ts r)
     go (Err m) q again = tt
     go (Ok x) q again = moved (find-labels (n + 1) (with-label ls k (x .0)) (x .1) ts) (again (x .0) (x .1) (q .1))
       where
@@ -277,6 +279,7 @@ taken n ls t p = go (label t)
     read-it : (g : Got Instr) → Fits Fit g → Took 1 (on-line n t (bind g (λ i u. got (Some i) u)))
     read-it (got i u) f = (refl, f)
     read-it (wrong e u) f = tt
+
     go : (g : Got (Option (List ℕ))) → Took (has g) (on-line n t (bind g (λ o t. unless-over ls t)))
     go (wrong e u) = tt
     go (got o u) = at (over u)
@@ -303,14 +306,14 @@ all-read n ls is [] p h = (h, omega arith)
 all-read n ls is (t ∷ ts) p h = go (line-instr n ls t) (taken n ls t p) (λ js g. all-read (n + 1) ls js ts p g)
   where
     go : (r : Result (Option Instr) Mistake) → Took (has (label t)) r
-      → ((js : List Instr) → every an-instr js ≡ true → All-read (length js + count ts) (read-lines (n + 1) ls js ts)) → All-read (length is + count (t ∷ ts)) (goes n ls is ts r)
+        → ((js : List Instr) → every an-instr js ≡ true → All-read (length js + count ts) (read-lines (n + 1) ls js ts)) → All-read (length is + count (t ∷ ts)) (goes n ls is ts r)
     go (Err m) q again = tt
     go (Ok None) q again = moved (read-lines (n + 1) ls is ts) (again is h) (omega arith)
       where
         moved : (r : Result (List Instr) Mistake) → All-read (length is + count ts) r → length is + count ts ≡ length is + (has (label t) + count ts) → All-read (length is + (has (label t) + count ts)) r
         moved r f e = subst (λ (k : ℕ). All-read k r) e f
     go (Ok (Some i)) q again = moved (read-lines (n + 1) ls (is ++ i ∷ []) ts) (again (is ++ i ∷ []) (every-push an-instr is i h (q .1)))
-      (let a = q .0 in let b : length (is ++ i ∷ []) ≡ length is + 1 = length-append is (i ∷ []) in omega arith)
+        (let a = q .0 in let b : length (is ++ i ∷ []) ≡ length is + 1 = length-append is (i ∷ []) in omega arith)
       where
         moved : (r : Result (List Instr) Mistake) → All-read (length (is ++ i ∷ []) + count ts) r → length (is ++ i ∷ []) + count ts ≡ length is + (has (label t) + count ts) → All-read (length is + (has (label t) + count ts)) r
         moved r f e = subst (λ (k : ℕ). All-read k r) e f
