@@ -6,8 +6,4 @@ pub mod Listings
 pub mod Numerals
 pub mod Back
 pub mod Returned
-pub mod Bytes
-pub mod Exact
-pub mod Digits
-pub mod Programs
-pub mod Turns
+pub mod Loads

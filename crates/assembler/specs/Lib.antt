@@ -5,4 +5,3 @@ pub mod Instructions
 pub mod Source
 pub mod Listing
 pub mod Again
-pub mod Spelling

@@ -9,6 +9,7 @@ ghost use Rattle.command.specs.Codes.{code, codes};
 ghost use Rattle.assembler.specs.Words.{a-name};
 ghost use Rattle.assembler.specs.Reading.{Took, left, shown-name, A-name, Named, Named-alone};
 ghost use Rattle.assembler.specs.Instructions.{labels-of};
+ghost use Rattle.assembler.specs.Again.{Loadable};
 ghost use Rattle.assembler.specs.Source.{new-label, next-place, noted, read-label, line-label, with-label, find-labels, instr-of, read-line, line-instr, with-instr, read-lines, lines, assembled, assembly-of, Answers};
 use crate::cursor::Cursor;
 use crate::labels::Label;
@@ -195,7 +196,8 @@ fn read_lines(heap: Global, text: &[u8], labels: &[Label]) -> Result<Vec<Instr>,
 
 // The program that a text writes, and its labels, or its first mistake.
 pub fn assemble(heap: Global, text: &[u8]) -> Result<Assembly, AssembleError>
-    ensures { λ r. ⌜ Answers assembly-of (assembled (now (text .entry))) r ⌝ }
+    ensures answer { λ r. ⌜ Answers assembly-of (assembled (now (text .entry))) r ⌝ }
+    ensures loadable { λ r. ⌜ made r (λ a. Loadable (codes (vec-items (a .program)))) ⌝ }
 {
     let labels = find_labels(heap, text)?;
     let program = read_lines(heap, text, &labels)?;

@@ -1,0 +1,6 @@
+pub mod Bytes
+pub mod Exact
+pub mod Digits
+pub mod Programs
+pub mod Turns
+pub mod Codings
