@@ -3,3 +3,11 @@ pub mod Values
 pub mod Places
 pub mod Lines
 pub mod Listings
+pub mod Numerals
+pub mod Back
+pub mod Returned
+pub mod Bytes
+pub mod Exact
+pub mod Digits
+pub mod Programs
+pub mod Turns

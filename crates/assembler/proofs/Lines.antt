@@ -94,10 +94,6 @@ pub read-end : (n : ℕ) (ls : List Label) (is : List Instr) (t : List ℕ) → 
 unfolding read-lines lines
 read-end n ls is t h = ap (λ u. read-lines n ls is (lines u)) (nil-from-length t h)
 
-pub each-push : {A B : Type 0} (f : A → B) (xs : List A) (y : A) → each f (xs ++ y ∷ []) ≡ each f xs ++ f y ∷ []
-each-push f [] y = refl
-each-push f (x ∷ xs) y = ap (λ u. f x ∷ u) (each-push f xs y)
-
 -- the exit of a `?`: a line's mistake is the text's, and want of memory may always come
 passes : {A B C D : Type 0} (f : B → A) (g : D → C) (o : Result A Mistake) (w : Result C Mistake) (e : AssembleError)
     → ((m : Mistake) → o ≡ Err m → w ≡ Err m) → Answers f o (Err e) → Answers g w (Err e)

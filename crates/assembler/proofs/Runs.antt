@@ -13,8 +13,8 @@ use Rattle.assembler.specs.declared.words.Class.the-variants.{Line, Name}
 use mathlib.Core.Logic.{⊎-elim}
 use lib.Dec.{eqb}
 use Rattle.std.specs.declared.option.Option.the-variants.{None, Some}
-use Rattle.command.specs.Machine.{pick}
-use Rattle.assembler.specs.Words.{front, past, behind, in-class, after-line, a-name, letter}
+use Rattle.command.specs.Machine.{pick, each}
+use Rattle.assembler.specs.Words.{front, past, behind, in-class, after-line, a-name, letter, printable}
 
 -- so far all bytes are of the front
 abbrev pub Run : (ℕ → Bool) → List ℕ → ℕ → Type 0
@@ -93,11 +93,25 @@ past-all p (b ∷ bs) h zero l = ⊎-elim (λ (e : p b ≡ true). e) (λ (e : p 
 past-all p (b ∷ bs) h (suc i) l =
     ⊎-elim (λ (e : p b ≡ true). past-all p bs (simp e at h) i (omega arith)) (λ (e : p b ≡ false). absurd (omega (arith, simp e at h))) (cases-bool (p b))
 
-pub name-ascii : (w : List ℕ) → a-name w ≡ true → (i : ℕ) → i < length w → getD w i 0 < 128
-name-ascii w h i l =
-    let a = and-parts (letter (getD w 0 0)) (eqb (length (past (in-class Name) w)) 0) h in
-    let e = past-all (in-class Name) w (eqb-true _ _ (a .1)) i l in
-    small (getD w i 0) e
+-- a name is shown as it is
+same-each : (w : List ℕ) → ((i : ℕ) → i < length w → printable (getD w i 0) ≡ getD w i 0) → each printable w ≡ w
+same-each [] h = refl
+same-each (b ∷ bs) h = cons (h 0 (omega arith)) (same-each bs (λ i l. h (suc i) (omega arith)))
   where
-    small : (b : ℕ) → in-class Name b ≡ true → b < 128
-    small b e = grind (arith, tells)
+    cons : {b c : ℕ} {bs cs : List ℕ} → b ≡ c → bs ≡ cs → b ∷ bs ≡ c ∷ cs
+    cons p q i = p i ∷ q i
+
+name-byte : (b : ℕ) → in-class Name b ≡ true → printable b ≡ b
+name-byte b e = grind (arith, tells)
+
+pub name-shown : (w : List ℕ) → a-name w ≡ true → each printable w ≡ w
+name-shown w h =
+    let a = and-parts (letter (getD w 0 0)) (eqb (length (past (in-class Name) w)) 0) h in
+    same-each w (λ i l. name-byte (getD w i 0) (past-all (in-class Name) w (eqb-true _ _ (a .1)) i l))
+
+pub each-push : {A B : Type 0} (f : A → B) (xs : List A) (y : A) → each f (xs ++ y ∷ []) ≡ each f xs ++ f y ∷ []
+each-push f [] y = refl
+each-push f (x ∷ xs) y = ap (λ u. f x ∷ u) (each-push f xs y)
+
+pub each-more : (f : ℕ → ℕ) (t : List ℕ) (i : ℕ) → i < length t → each f (take (i + 1) t) ≡ each f (take i t) ++ f (getD t i 0) ∷ []
+each-more f t i h = ap (each f) (take-more t i 0 h) ∙ each-push f (take i t) (getD t i 0)

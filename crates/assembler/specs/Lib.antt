@@ -4,3 +4,5 @@ pub mod Reading
 pub mod Instructions
 pub mod Source
 pub mod Listing
+pub mod Again
+pub mod Spelling

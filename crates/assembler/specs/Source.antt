@@ -4,24 +4,27 @@ use mathlib.Core.Bool.{Bool, true, false}
 use mathlib.Core.List.{List, [], _∷_, _++_}
 use Prim.Native.Nat.{ℕ, _+_, _-_}
 use denote.Ref.{RefT, now}
+use lib.Chars.{codes as chars}
 use lib.Dec.{eqb, ltb}
 use lib.ListN.{length, take}
+use Rattle.std.specs.Of.String.{string-bytes}
 use Rattle.std.specs.Of.Vec.{vec-items}
+use Rattle.std.specs.Written.{decimal}
 use Rattle.std.specs.Options.{isSome, mapped}
 use Rattle.std.specs.declared.option.Option.{Option}
 use Rattle.std.specs.declared.option.Option.the-variants.{None, Some}
 use Rattle.std.specs.declared.result.Result.{Result}
 use Rattle.std.specs.declared.result.Result.the-variants.{Ok, Err}
 use Rattle.command.specs.Codes.{code, codes}
-use Rattle.command.specs.Machine.{pick, Instr}
+use Rattle.command.specs.Machine.{pick, each, Instr}
 use Rattle.command.specs.declared.code.Instr.{Instr as Code}
 use Rattle.assembler.specs.declared.mistakes.Expected.{Expected}
-use Rattle.assembler.specs.declared.mistakes.Expected.the-variants.{NewLabel, Room}
+use Rattle.assembler.specs.declared.mistakes.Expected.the-variants.{Mnemonic, Operation, Below, Register, Number, Offset, Place, KnownLabel, NewLabel, LabelName, LineEnd, Room}
 use Rattle.assembler.specs.declared.mistakes.Mistake.{Mistake as MistakeCode}
 use Rattle.assembler.specs.declared.mistakes.AssembleError.{AssembleError}
 use Rattle.assembler.specs.declared.mistakes.AssembleError.the-variants.{Wrong, NoMemory}
 use Rattle.assembler.specs.declared.source.Assembly.{Assembly as AssemblyCode}
-use Rattle.assembler.specs.Words.{word, spaced, over}
+use Rattle.assembler.specs.Words.{word, spaced, over, printable}
 use Rattle.assembler.specs.Reading.{Got, got, wrong, bind, label, shown-name}
 use Rattle.assembler.specs.Instructions.{Label, labels-of, place-of, instruction}
 
@@ -46,7 +49,30 @@ pub record Mistake : Type 0 where
   pub expected : Expected
 
 abbrev pub mistake-on : ℕ → List ℕ → Expected → List ℕ → Mistake
-mistake-on n line e t = record { line = n; column = length line - length t + 1; found = found-at t; expected = e }
+mistake-on n line e t = record { line = n; column = length line - length t + 1; found = each printable (found-at t); expected = e }
+
+-- what was expected and what is wrong, in words
+abbrev pub expected-text : Expected → List ℕ
+expected-text Mnemonic = chars "an instruction"
+expected-text Operation = chars "an operation, such as sum"
+expected-text Below = chars "below, after not"
+expected-text Register = chars "a register from 0 to 15"
+expected-text Number = chars "a number below 4294967296"
+expected-text Offset = chars "an offset below 65536"
+expected-text Place = chars "a label or a place below 65536"
+expected-text KnownLabel = chars "a label that some line has"
+expected-text NewLabel = chars "a label that no line before has"
+expected-text LabelName = chars "a label's name before the colon"
+expected-text LineEnd = chars "the end of the line"
+expected-text Room = chars "no more than 4096 instructions"
+
+-- what was found, and then the rest of the sentence
+abbrev pub found-text : List ℕ → List ℕ → List ℕ
+found-text w rest = pick (eqb (length w) 0) (chars "the end of the line" ++ rest) (chars "'" ++ (w ++ (chars "'" ++ rest)))
+
+abbrev pub mistake-text : Mistake → List ℕ
+mistake-text m =
+    chars "line " ++ (decimal (m .line) ++ (chars ", column " ++ (decimal (m .column) ++ (chars ": found " ++ found-text (m .found) (chars ", expected " ++ expected-text (m .expected))))))
 
 -- what a line gave, or the mistake on it
 abbrev pub on-line : {A : Type 0} → ℕ → List ℕ → Got A → Result A Mistake
@@ -122,7 +148,7 @@ assembled t = by-labels t (find-labels 1 [] 0 (lines t))
 
 -- what the code's answers are: want of memory may always come, and nothing else that is not so
 abbrev pub mistake-of : MistakeCode → Mistake
-mistake-of m = record { line = m .line; column = m .column; found = vec-items (m .found); expected = m .expected }
+mistake-of m = record { line = m .line; column = m .column; found = string-bytes (m .found); expected = m .expected }
 
 abbrev pub assembly-of : AssemblyCode → Assembly
 assembly-of a = record { program = codes (vec-items (a .program)); labels = labels-of (vec-items (a .labels)) }

@@ -96,9 +96,21 @@ value-on base limit n (b ∷ bs) =
 abbrev pub value-below : ℕ → ℕ → List ℕ → Option ℕ
 value-below base limit w = pick (eqb (length w) 0) None (value-on base limit 0 w)
 
+abbrev pub then-behind : ℕ → Option (List ℕ) → Option (List ℕ)
+then-behind s None = None
+then-behind s (Some u) = behind s u
+
 abbrev pub hex-digits : List ℕ → Option (List ℕ)
-hex-digits w = elim (behind 48 w) [ None ↦ None | Some u ↦ behind 120 u ]
+hex-digits w = then-behind 120 (behind 48 w)
 
 -- in tens, or after 0x in sixteens
+abbrev pub in-base : ℕ → List ℕ → Option (List ℕ) → Option ℕ
+in-base limit w None = value-below 10 limit w
+in-base limit w (Some u) = value-below 16 limit u
+
 abbrev pub number-below : ℕ → List ℕ → Option ℕ
-number-below limit w = elim (hex-digits w) [ None ↦ value-below 10 limit w | Some u ↦ value-below 16 limit u ]
+number-below limit w = in-base limit w (hex-digits w)
+
+-- a byte as it is shown
+abbrev pub printable : ℕ → ℕ
+printable b = pick (within 32 126 b) b 63

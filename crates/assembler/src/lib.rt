@@ -6,6 +6,7 @@ mod listing;
 mod mistakes;
 mod names;
 mod source;
+mod spelled;
 mod words;
 
 pub use labels::Label;
@@ -19,3 +20,6 @@ pub use mistakes::Mistake;
 pub use mistakes::MistakeDisplay;
 pub use source::Assembly;
 pub use source::assemble;
+pub use spelled::ReadError;
+pub use spelled::read_program;
+pub use spelled::write_program;

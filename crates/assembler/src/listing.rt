@@ -4,6 +4,7 @@ ghost use Rattle.std.specs.Of.String.{string-bytes};
 ghost use Rattle.std.specs.Vec.{made};
 ghost use Rattle.std.specs.declared.option.Option.the-variants.{Some};
 ghost use Rattle.command.specs.Codes.{code, codes};
+ghost use Rattle.assembler.specs.Again.{Loadable, Assembles, Listed-back, Listed-once};
 ghost use Rattle.assembler.specs.Listing.{instr-text, listing};
 use crate::names::comparison_name;
 use crate::names::op_name;
@@ -59,9 +60,10 @@ pub impl fmt::Display for Listed as ListedDisplay {
     }
 }
 
-// A line for each instruction.
+// A line for each instruction: text that assembles to the same program.
 pub fn disassemble(heap: Global, program: &[Instr]) -> Result<String, AllocError>
-    ensures { λ r. ⌜ made r (λ t. string-bytes t ≡ listing (codes (now (program .entry)))) ⌝ }
+    ensures text { λ r. ⌜ made r (λ t. string-bytes t ≡ listing (codes (now (program .entry)))) ⌝ }
+    ensures again { λ r. ⌜ made r (λ t. Loadable (codes (now (program .entry))) → Assembles (string-bytes t) (codes (now (program .entry)))) ⌝ }
 {
     let mut text = String::new(heap);
     for instr in program {
@@ -69,4 +71,12 @@ pub fn disassemble(heap: Global, program: &[Instr]) -> Result<String, AllocError
         text.push_str(line.as_str())?;
     }
     Ok(text)
+}
+
+// The theorem by itself: a listing assembles to what it lists, and no two programs have one listing.
+fn listing_stands() -> u8
+    ensures back { λ _. ⌜ Listed-back ⌝ }
+    ensures once { λ _. ⌜ Listed-once ⌝ }
+{
+    0
 }

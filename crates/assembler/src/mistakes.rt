@@ -1,15 +1,16 @@
 // What is wrong with a source text, and where.
 ghost use mathlib.Core.Path.{_≡_};
 ghost use Rattle.std.specs.Vec.{made};
+ghost use Rattle.std.specs.declared.option.Option.the-variants.{Some};
 ghost use Rattle.assembler.specs.declared.mistakes.AssembleError.the-variants.{NoMemory};
-ghost use Rattle.assembler.specs.Source.{found-at, mistake-on, mistake-of, Tells};
+ghost use Rattle.assembler.specs.Source.{found-at, mistake-on, mistake-of, Tells, expected-text, mistake-text};
 use crate::words::is_over;
+use crate::words::shown;
 use crate::words::split_word;
 use std::alloc::AllocError;
 use std::alloc::Global;
 use std::alloc::Refused;
 use std::fmt;
-use std::str::from_utf8;
 
 // What was expected where something else stood.
 #[derive(Clone, Copy)]
@@ -31,13 +32,17 @@ pub enum Expected {
 }
 
 pub impl fmt::Display for Expected as ExpectedDisplay {
+    ghost shown = { λ e. Some (expected-text e) };
+
     fn fmt<W: fmt::Write>(&self, f: &mut fmt::Formatter<W>) -> fmt::Result {
         f.write_str(self.words())
     }
 }
 
 impl Expected {
-    fn words(self) -> &'static str {
+    fn words(self) -> &'static str
+        ensures { λ r. ⌜ now r ≡ expected-text self ⌝ }
+    {
         match self {
             Expected::Mnemonic => "an instruction",
             Expected::Operation => "an operation, such as sum",
@@ -76,8 +81,8 @@ pub struct Mistake {
     pub line: usize,
     // In bytes, from 1.
     pub column: usize,
-    // Empty at the end of the line.
-    pub found: Vec<u8>,
+    // As it can be shown; empty at the end of the line.
+    pub found: String,
     pub expected: Expected,
 }
 
@@ -92,7 +97,7 @@ impl Mistake {
     ) -> Result<Mistake, AllocError>
         ensures { λ r. ⌜ made r (λ m. mistake-on number (now (line .entry)) expected (now (left .entry)) ≡ mistake-of m) ⌝ }
     {
-        let found = Vec::from_slice(heap, found_at(left))?;
+        let found = shown(heap, found_at(left))?;
         Ok(Mistake {
             line: number,
             column: line.len().saturating_sub(left.len()) + 1,
@@ -103,20 +108,24 @@ impl Mistake {
 }
 
 pub impl fmt::Display for Mistake as MistakeDisplay {
+    ghost shown = { λ m. Some (mistake-text (mistake-of m)) };
+
     fn fmt<W: fmt::Write>(&self, f: &mut fmt::Formatter<W>) -> fmt::Result {
         let line = self.line;
         let column = self.column;
-        write!(f, "line {line}, column {column}: found ")?;
-        if self.found.is_empty() {
-            f.write_str("the end of the line")?;
-        } else {
-            match from_utf8(self.found.as_slice()) {
-                Ok(word) => write!(f, "'{word}'")?,
-                Err(_) => f.write_str("bytes that are no text")?,
-            }
-        }
         let expected = self.expected;
-        write!(f, ", expected {expected}")
+        if self.found.is_empty() {
+            write!(
+                f,
+                "line {line}, column {column}: found the end of the line, expected {expected}"
+            )
+        } else {
+            let found = self.found.as_str();
+            write!(
+                f,
+                "line {line}, column {column}: found '{found}', expected {expected}"
+            )
+        }
     }
 }
 

@@ -19,6 +19,7 @@ use crate::mistakes::AssembleErrorFromRefused;
 use crate::mistakes::Expected;
 use crate::words::is_over;
 use crate::words::past_blanks;
+use crate::words::shown;
 use crate::words::split_line;
 use command::code::Instr;
 use std::alloc::AllocError;
@@ -50,11 +51,7 @@ fn owned_name(heap: Global, name: &[u8]) -> Result<String, AllocError>
     requires { ⌜ a-name (now name) ≡ true ⌝ }
     ensures { λ r. ⌜ made r (λ s. string-bytes s ≡ now (name .entry)) ⌝ }
 {
-    let mut owned = String::new(heap);
-    for b in name {
-        owned.push(char::from(*b))?;
-    }
-    Ok(owned)
+    shown(heap, name)
 }
 
 // The new label of a line, if it has one.

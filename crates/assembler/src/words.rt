@@ -2,8 +2,13 @@
 ghost use mathlib.Core.Path.{_≡_};
 ghost use Prim.Native.Nat.{_<_, _≤_, _^_};
 ghost use lib.ListN.{length};
+ghost use Rattle.std.specs.Of.String.{string-bytes};
 ghost use Rattle.std.specs.Slices.{found};
-ghost use Rattle.assembler.specs.Words.{blank, letter, digit, in-class, front, past, word, past-word, spaced, separated, over, a-name, digit-of, value-below, number-below, behind, hex-digits, Behind, line-of, after-line};
+ghost use Rattle.std.specs.Vec.{made};
+ghost use Rattle.command.specs.Machine.{each};
+ghost use Rattle.assembler.specs.Words.{blank, letter, digit, in-class, front, past, word, past-word, spaced, separated, over, a-name, digit-of, value-below, number-below, printable, behind, hex-digits, Behind, line-of, after-line};
+use std::alloc::AllocError;
+use std::alloc::Global;
 
 // What a run of bytes is made of.
 #[derive(Clone, Copy)]
@@ -190,4 +195,23 @@ pub(crate) fn number_below(word: &[u8], limit: u64) -> Option<u64>
         Some(digits) => value_below(digits, HEX, limit),
         None => value_below(word, DECIMAL, limit),
     }
+}
+
+// A byte as it can be shown: a sign of ASCII as it is, any other as a question mark.
+fn printable(b: u8) -> u8
+    ensures value { λ r. ⌜ r ≡ printable b ⌝ }
+    ensures ascii { λ r. ⌜ r < 128 ⌝ }
+{
+    if b' ' <= b && b <= b'~' { b } else { b'?' }
+}
+
+// Bytes as they can be shown.
+pub(crate) fn shown(heap: Global, bytes: &[u8]) -> Result<String, AllocError>
+    ensures { λ r. ⌜ made r (λ s. string-bytes s ≡ each printable (now (bytes .entry))) ⌝ }
+{
+    let mut text = String::new(heap);
+    for b in bytes {
+        text.push(char::from(printable(*b)))?;
+    }
+    Ok(text)
 }

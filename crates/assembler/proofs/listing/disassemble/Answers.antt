@@ -3,6 +3,8 @@ use borrow.Author.Needs.{needs}
 use Rattle.std.proofs.shelf.Lists.{take-all}
 use Rattle.command.specs.Codes.{codes}
 use Rattle.assembler.specs.Listing.{listing}
+use Rattle.assembler.specs.Source.{assembled}
+use Rattle.assembler.proofs.Returned.{listed-back}
 use Rattle.assembler.proofs.Listings.{listing-more}
 use Rattle.assembler.proofs.listing.disassemble.Needs as need
 
@@ -16,4 +18,6 @@ loop-instr-again c =
     search needs
 
 pub returns : need.returns
-returns c = c .loop-instr .inv ∙ ap (λ u. listing (codes u)) (take-all (c .loop-instr .instr-index) (c .args .program .now) (c .loop-instr-test .left))
+returns c =
+    let e = c .loop-instr .inv ∙ ap (λ u. listing (codes u)) (take-all (c .loop-instr .instr-index) (c .args .program .now) (c .loop-instr-test .left)) in
+    record { text = e; again = λ h. ap assembled e ∙ listed-back (codes (c .args .program .now)) h }

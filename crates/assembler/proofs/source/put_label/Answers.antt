@@ -1,6 +1,6 @@
 use borrow.Author.Needs.{needs}
 use Rattle.assembler.specs.Instructions.{label-of}
-use Rattle.assembler.proofs.Lines.{each-push}
+use Rattle.assembler.proofs.Runs.{each-push}
 use Rattle.assembler.proofs.source.put_label.Needs as need
 
 pub returns-in-Continue-push : need.returns-in-Continue-push
