@@ -12,6 +12,7 @@ use prompt::mistakes::MistakeDisplay;
 use prompt::requests::Numbers;
 use prompt::requests::Request;
 use prompt::requests::read_request;
+use session::debugger::Refusal;
 use session::debugger::Session;
 use session::show::PlaceDisplay;
 use session::show::RefusalDisplay;
@@ -104,7 +105,9 @@ impl<P: Processor + Drop> Conversation<P> {
     }
 
     fn give(&mut self, rt: &LibcRuntime, numbers: Numbers<'_>) -> io::Result<()> {
-        let more = numbers.to_vec(rt.alloc())?;
+        let Ok(more) = numbers.to_vec(rt.alloc()) else {
+            return rt.println(Refusal::NoMemory);
+        };
         match self.session.give(more.as_slice()) {
             Ok(()) => Ok(()),
             Err(refusal) => rt.println(refusal),

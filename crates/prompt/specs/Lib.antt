@@ -3,3 +3,4 @@ pub mod Verbs
 pub mod Numbers
 pub mod Requests
 pub mod Meant
+pub mod Statements

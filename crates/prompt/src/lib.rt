@@ -2,5 +2,6 @@
 pub mod mistakes;
 pub mod quantities;
 pub mod requests;
+pub mod statements;
 pub mod verbs;
 mod words;

@@ -29,7 +29,7 @@ pub impl fmt::Display for Refusal as RefusalDisplay {
                 f,
                 "refused 7: at most 65536 numbers can come in, and {fed} have"
             ),
-            Refusal::NoMemory => f.write_str("there is no memory left to show that"),
+            Refusal::NoMemory => f.write_str("there is no memory left for that"),
             Refusal::Fault(fault) => f.write_str(fault_text(fault)),
         }
     }
