@@ -100,6 +100,7 @@ impl Mistake {
         let found = shown(heap, found_at(left))?;
         Ok(Mistake {
             line: number,
+            // What is left of a line is no longer than the line, so nothing is cut off here.
             column: line.len().saturating_sub(left.len()) + 1,
             found,
             expected,
