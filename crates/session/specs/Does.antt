@@ -8,6 +8,7 @@ use Rattle.std.specs.declared.result.Result.the-variants.{Ok, Err}
 use Rattle.command.specs.declared.code.Instr.{Instr as Code}
 use Rattle.command.specs.Codes.{codes}
 use Rattle.target.specs.Run.{Target, Came, fresh-target, with-state, words-of, going}
+use Rattle.session.specs.Strides.{stride}
 use Rattle.session.specs.declared.debugger.Refusal.{Refusal}
 use Rattle.session.specs.declared.debugger.Refusal.the-variants.{Full, Fault, NoMemory}
 
@@ -26,6 +27,11 @@ Went n before after by = (t : Target) → before t → after (with-state t (gone
 -- the time after so many steps, as long as the clock can show it
 abbrev pub Later : (time by time₁ : ℕ) → Type 0
 Later time by time₁ = time + by < 18446744073709551616 → time₁ ≡ time + by
+
+-- one stride of what is left, as far as it goes
+abbrev pub Strode : ℕ → (before after : Target → Type 0) → (time time₁ : ℕ) → Result ℕ Refusal → Type 0
+Strode left before after time time₁ (Ok by) = (by ≤ left) × Later time by time₁ × Went (stride time left) before after by
+Strode left before after time time₁ (Err e) = (time₁ ≡ time) × Stays before after
 
 -- of at most n steps as far as it goes; a processor that fails has gone some of them
 abbrev pub Forwards : ℕ → (before after : Target → Type 0) → (time time₁ : ℕ) → Result ℕ Refusal → Type 0

@@ -1,13 +1,10 @@
 // A processor with its program, how far it has gone, and how much has come in.
 ghost use mathlib.Core.Path.{_≡_};
-ghost use Prim.Native.Nat.{_≤_};
-ghost use lib.ListN.{length};
 ghost use Rattle.std.specs.Of.Vec.{vec-items};
 ghost use Rattle.std.specs.Vec.{made};
-ghost use Rattle.std.specs.Results.{Cases};
 ghost use Rattle.target.specs.Acts.{Tells-regs, Tells-spot};
 ghost use Rattle.session.specs.Strides.{stride as stride-of};
-ghost use Rattle.session.specs.Does.{Stays, Went, Later, Forwards, Loads, Gives, Seen-words, Seen-outs};
+ghost use Rattle.session.specs.Does.{Strode, Forwards, Loads, Gives, Seen-words, Seen-outs};
 use command::code::Instr;
 use std::alloc::AllocError;
 use std::alloc::Global;
@@ -103,10 +100,11 @@ impl<P: Processor> Session<P> {
 
     // Goes on by one stride, as far as it goes, and answers by how many steps.
     fn go(&mut self, left: u64) -> Result<u64, Refusal>
-        ensures { λ r. ⌜ Cases r (λ by. (by ≤ left) × Later (now (self .entry) .time) by (now (self .exit) .time) × Went (stride-of (now (self .entry) .time) left) (like (now (self .entry) .processor)) (like (now (self .exit) .processor)) by) (λ _. (now (self .exit) .time ≡ now (self .entry) .time) × Stays (like (now (self .entry) .processor)) (like (now (self .exit) .processor))) ⌝ }
+        ensures { λ r. ⌜ Strode left (like (now (self .entry) .processor)) (like (now (self .exit) .processor)) (now (self .entry) .time) (now (self .exit) .time) r ⌝ }
     {
         let most = stride(self.time, left);
         let came = self.processor.goes(most, &[])?;
+        // No processor goes further than it is told, but nothing is known of one that is like no target.
         let by = came.by.min(most);
         self.time = self.time.saturating_add(by);
         Ok(by)
