@@ -1,4 +1,6 @@
 // What is typed and what is shown, line by line.
+ghost use mathlib.Core.Path.{_≡_};
+ghost use Rattle.std.specs.declared.option.Option.the-variants.{None};
 use crate::files::program_of;
 use crate::help;
 use crate::input::Input;
@@ -32,7 +34,9 @@ pub struct Conversation<P> {
 }
 
 impl<P: Processor + Drop> Conversation<P> {
-    pub fn new(session: Session<P>, echo: bool) -> Conversation<P> {
+    pub fn new(session: Session<P>, echo: bool) -> Conversation<P>
+        ensures { λ r. ⌜ (r .session ≡ session) × (r .echo ≡ echo) × (r .«last_move» ≡ None) ⌝ }
+    {
         Conversation {
             session,
             echo,
