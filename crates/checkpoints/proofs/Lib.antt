@@ -1,0 +1,9 @@
+pub mod Tables
+pub mod Plans
+pub mod OneLevel
+pub mod AllLevels
+pub mod Forward
+pub mod Looking
+pub mod Search
+pub mod Stand
+pub mod Acts
