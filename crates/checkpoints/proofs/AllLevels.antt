@@ -8,7 +8,7 @@ use native.Mathlib.Nat.{mul-le-mul-right}
 use native.Mathlib.Omega.{arith}
 use lib.ListN.{length}
 use Rattle.std.proofs.shelf.Tests.{cases-eq, cases-lt}
-use Rattle.checkpoints.specs.Slots.{Table, Act, Runs}
+use Rattle.checkpoints.specs.Slots.{Table, put, Act, take, go, keep, Runs}
 use Rattle.checkpoints.specs.Policy.{time, slot, Spot, spot, above, levels-back, levels-gaps, move-levels, settle, back, back-gaps}
 use Rattle.checkpoints.specs.Ready.{Points, Built, Below, Level, Levels, Ready}
 use Rattle.checkpoints.proofs.Tables.{slot-in, Others}
@@ -119,14 +119,40 @@ levels-run far (s ∷ ss) v g t u n r n' r' rest T a c Q hv ht le it iu (l, h) f
     (l₂, levels-left (suc v) (8 * g) T₁ T₂ _ _ _ (λ k lo. o₂ k (inr (omega arith))) h₁)
     (λ k hk. o₂ k (⊎-elim inl (λ x. inr (omega arith)) hk) ∙ o₁ k (⊎-elim (λ x. inl (omega arith)) (λ x. inr (omega arith)) hk))))
 
+-- All levels move from t to u, by as many steps for each step back as there are levels.
+pub move-runs : (t u : ℕ) (ss : List ℕ) (T : Table) (a c : ℕ) (rest : List Act) (Q : Goal) → length ss ≤ 15 → u ≤ t → Ready T t ss →
+    ((T' : Table) (a' c' : ℕ) → c' ≤ c + length ss * (t - u) → Ready T' u (back-gaps t u ss) → ((k : ℕ) → 10 * length ss ≤ k → T' k ≡ T k) → Runs t rest T' a' c' Q) →
+    Runs t (move-levels t u ss rest) T a c Q
+unfolding move-levels back-gaps Ready
+move-runs t u ss T a c rest Q h le ready f =
+    let d : t ≡ u + (t - u) = omega arith in
+    levels-run t ss 0 4096 t u (t / 4096) (t % 4096) (u / 4096) (u % 4096) rest T a c Q (omega arith) (omega arith) le
+    (record { sum = omega arith; rest = omega arith }) (record { sum = omega arith; rest = omega arith }) ready
+    (λ T' a' c' e l o. f T' a' c' (omega (arith, ap (λ z. length ss * z) d)) l (λ k hk. o k (inr (omega arith))))
+
+-- Where everything is ready for u, the processor comes there from the last point of the lowest level.
+pub settle-runs : (far u : ℕ) (ss : List ℕ) (T : Table) (a c : ℕ) → u ≤ far → Ready T u ss → Runs far (settle u ss) T a c (λ T' a' c'. (a' ≡ u) × (c' < c + 4096) × (T' ≡ T))
+unfolding settle Ready Runs
+settle-runs far u ss T a c h l = (last-two 0 4096 T (u / 4096) (u % 4096) ss (u / 4096) (omega arith) (omega arith) l, (omega arith, (omega arith, omega arith, refl)))
+
+-- it has no gaps in it
+pub settle-gaps : (t u : ℕ) (ss : List ℕ) → settle u (back-gaps t u ss) ≡ settle u ss
+unfolding settle back-gaps
+settle-gaps t u ss = ap (λ k. take k (u / 4096 * 4096) ∷ go (u % 4096) ∷ []) (above-gaps 0 4096 (t / 4096) (t % 4096) (u / 4096) (u % 4096) ss (u / 4096))
+
+-- what holds at the end may say less
+pub runs-less : (far : ℕ) (acts : List Act) (T : Table) (a c : ℕ) (P Q : Goal) → ((T' : Table) (a' c' : ℕ) → P T' a' c' → Q T' a' c') → Runs far acts T a c P → Runs far acts T a c Q
+unfolding Runs
+runs-less far [] T a c P Q f h = f T a c h
+runs-less far (take k x ∷ rest) T a c P Q f h = (h .0, runs-less far rest T x c P Q f (h .1))
+runs-less far (go n ∷ rest) T a c P Q f h = (h .0, runs-less far rest T (a + n) (c + n) P Q f (h .1))
+runs-less far (keep k ∷ rest) T a c P Q f h = (h .0, runs-less far rest (put T k a) a c P Q f (h .1))
+
 pub back-runs : (t u : ℕ) (ss : List ℕ) (T : Table) (a : ℕ) → length ss ≤ 15 → u ≤ t → Ready T t ss →
     Runs t (back t u ss) T a 0 (λ T' a' c'. (a' ≡ u) × (c' ≤ 4096 + length ss * (t - u)) × Ready T' u (back-gaps t u ss))
-unfolding move-levels settle back back-gaps Ready Runs
+unfolding back
 back-runs t u ss T a h le ready =
-    let d : t ≡ u + (t - u) = omega arith in
-    levels-run t ss 0 4096 t u (t / 4096) (t % 4096) (u / 4096) (u % 4096) _ T a 0 _ (omega arith) (omega arith) le
-    (record { sum = omega arith; rest = omega arith }) (record { sum = omega arith; rest = omega arith }) ready
-    (λ T' a' c' e l o. (
-      rw (above-gaps 0 4096 (t / 4096) (t % 4096) (u / 4096) (u % 4096) ss (u / 4096)) at (last-two 0 4096 T' (u / 4096) (u % 4096) _ (u / 4096) (omega arith) (omega arith) l),
-      (omega arith, (omega arith, omega (arith, ap (λ z. length ss * z) d), l)),
-    ))
+    move-runs t u ss T a 0 (settle u ss) _ h le ready
+    (λ T' a' c' e r o. runs-less t (settle u ss) T' a' c' _ _
+    (λ T'' a'' c'' p. (p .0, omega (arith, p .1), subst (λ (z : Table). Ready z u (back-gaps t u ss)) (sym (p .2)) r))
+    (subst (λ (z : List Act). Runs t z T' a' c' (λ T'' a'' c''. (a'' ≡ u) × (c'' < c' + 4096) × (T'' ≡ T'))) (settle-gaps t u ss) (settle-runs t u (back-gaps t u ss) T' a' c' le r)))

@@ -1,3 +1,4 @@
+-- The lemmas of this crate, module by module.
 pub mod Tables
 pub mod Plans
 pub mod OneLevel
@@ -7,3 +8,6 @@ pub mod Looking
 pub mod Search
 pub mod Stand
 pub mod Acts
+pub mod Arriving
+pub mod Fewness
+pub mod LevelUp

@@ -8,11 +8,11 @@ use native.Mathlib.Omega.{arith}
 use lib.ListN.{length}
 use Rattle.checkpoints.specs.Numbers.{here, hit}
 use Rattle.checkpoints.specs.Slots.{Table, put, Act, Runs}
-use Rattle.checkpoints.specs.Policy.{spot, Kept, last-kept, look-in, look, search-back, search-none, move-levels, back-gaps, levels-gaps}
+use Rattle.checkpoints.specs.Policy.{spot, Kept, last-kept, look-in, look, search-back, search-none, back-gaps}
 use Rattle.checkpoints.specs.Ready.{Level, Levels, Ready}
 use Rattle.checkpoints.proofs.Tables.{put-here, put-else}
 use Rattle.checkpoints.proofs.Plans.{Goal}
-use Rattle.checkpoints.proofs.AllLevels.{level-left, levels-run}
+use Rattle.checkpoints.proofs.AllLevels.{level-left, move-runs}
 use Rattle.checkpoints.proofs.Looking.{Near, near-kept}
 
 -- what is ready speaks of no spare slot
@@ -26,7 +26,7 @@ levels-low v g T T' n r (s ∷ ss) hv hn o (l, h) =
       levels-low (suc v) (8 * g) T T' (n / 8) (n % 8 * g + r) ss (omega arith) (omega arith) o h,
     )
 
-ready-low : (T T' : Table) (t : ℕ) (ss : List ℕ) → length ss ≤ 15 → t / 4096 < 30 * 8 ^ length ss → ((k : ℕ) → k < here → T' k ≡ T k) → Ready T t ss → Ready T' t ss
+pub ready-low : (T T' : Table) (t : ℕ) (ss : List ℕ) → length ss ≤ 15 → t / 4096 < 30 * 8 ^ length ss → ((k : ℕ) → k < here → T' k ≡ T k) → Ready T t ss → Ready T' t ss
 unfolding Ready
 ready-low T T' t ss hs ht o r = levels-low 0 4096 T T' (t / 4096) (t % 4096) ss (omega arith) ht o r
 
@@ -72,15 +72,12 @@ none-runs ss t T ready (suc f) (suc y) rest a c Q hf ht h =
 
 pub search-back-runs : (t u : ℕ) (ss : List ℕ) (T : Table) (a : ℕ) → length ss ≤ 15 → t / 4096 < 30 * 8 ^ length ss → 0 < u → u ≤ t → Ready T t ss →
     Runs t (search-back t u ss) T a 0 (λ T' a' c'. (a' ≡ u) × (c' ≤ 4096 + (length ss + 2) * (t - u)) × Ready T' u (back-gaps t u ss))
-unfolding search-back move-levels back-gaps Ready Runs
+unfolding search-back Runs
 search-back-runs t u ss T a hs ht pos le ready =
     let T₁ = put T hit u in
-    let d : t ≡ u + (t - u) = omega arith in
     found-runs ss t u T ready t t _ a 0 _ (omega arith) (omega arith) pos le
-    (λ a₁ c₁ e₁. levels-run t ss 0 4096 t u (t / 4096) (t % 4096) (u / 4096) (u % 4096) _ T₁ a₁ c₁ _ (omega arith) (omega arith) le
-    (record { sum = omega arith; rest = omega arith }) (record { sum = omega arith; rest = omega arith })
-    (ready-low T T₁ t ss hs ht (λ k hk. put-else T hit u k (omega arith)) ready)
-    (λ T₂ a₂ c₂ e₂ l o. (o hit (inr (omega arith)) ∙ put-here T hit u, (refl, omega (arith, ap (λ z. length ss * z) d), l))))
+    (λ a₁ c₁ e₁. move-runs t u ss T₁ a₁ c₁ _ _ hs le (ready-low T T₁ t ss hs ht (λ k hk. put-else T hit u k (omega arith)) ready)
+    (λ T₂ a₂ c₂ e₂ r o. (o hit (omega arith) ∙ put-here T hit u, (refl, omega arith, r))))
 
 pub search-none-runs : (t : ℕ) (ss : List ℕ) (T : Table) → length ss ≤ 15 → t / 4096 < 30 * 8 ^ length ss → Ready T t ss →
     Runs t (search-none t ss) T t 0 (λ T' a' c'. (a' ≡ t) × (c' ≡ t) × Ready T' t ss)

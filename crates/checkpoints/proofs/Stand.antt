@@ -10,10 +10,10 @@ use Rattle.checkpoints.specs.Numbers.{stride, levels, slots, most-time}
 use Rattle.checkpoints.specs.Slots.{Table, Act, take, go, keep, put, Runs}
 use Rattle.checkpoints.specs.Policy.{gaps-in, arrive-gaps, strides-gaps, forward, forward-gaps, level-gap, levels-gaps, back-gaps, last-kept}
 use Rattle.checkpoints.specs.Ready.{Levels, Ready}
-use Rattle.checkpoints.specs.Statements.{Small, Gaps, Slots-apart, Can-be-ready, Starts, Restarts, Stays-ready, Arrives-ready, Goes-forward, Goes-back, Kept-near, Finds-back, Finds-none}
+use Rattle.checkpoints.specs.Statements.{Small, Gaps, Slots-apart, Can-be-ready, Starts, Restarts, Stays-ready, Arrives-ready, Goes-forward, Moves-levels, Settles, Goes-back, Kept-near, Finds-back, Finds-none}
 use Rattle.checkpoints.proofs.Tables.{slot-in, points-apart, blocks-apart}
 use Rattle.checkpoints.proofs.Plans.{Goal}
-use Rattle.checkpoints.proofs.AllLevels.{Is, is-up, back-runs}
+use Rattle.checkpoints.proofs.AllLevels.{move-runs, settle-runs, back-runs}
 use Rattle.checkpoints.proofs.Forward.{ready-later, arrive-runs, arrive-length, forward-runs, start-runs, restart-runs}
 use Rattle.checkpoints.proofs.Looking.{near-kept}
 use Rattle.checkpoints.proofs.Search.{search-back-runs, search-none-runs}
@@ -60,7 +60,7 @@ forward-good zero n ss g = g
 forward-good (suc j) n ss g = forward-good j (suc n) _ (arrive-good (suc n) ss g)
 
 -- the top level has room
-room : (n : ℕ) (ss : List ℕ) → Gaps ss → n * 4096 < most-time → n < 30 * 8 ^ length ss
+pub room : (n : ℕ) (ss : List ℕ) → Gaps ss → n * 4096 < most-time → n < 30 * 8 ^ length ss
 room n ss g h = rw (g .count) (omega arith)
 
 pub slots-apart : Slots-apart
@@ -94,11 +94,24 @@ pub goes-forward : Goes-forward
 unfolding Goes-forward forward-gaps
 goes-forward T t u ss g le h r = (forward-good _ _ ss g, forward-runs t u ss T (omega arith) le (room (u / 4096) ss g (omega arith)) r)
 
-pub goes-back : Goes-back
-unfolding Goes-back back-gaps
-goes-back T t u a ss g le r =
+back-good : (t u : ℕ) (ss : List ℕ) → Gaps ss → Gaps (back-gaps t u ss)
+unfolding back-gaps
+back-good t u ss g =
     let s = back-small 4096 (t / 4096) (t % 4096) (u / 4096) (u % 4096) ss (omega arith) in
-    (record { count = s .0 ∙ g .count; small = s .1 }, rw (g .count) at (back-runs t u ss T a (omega arith) le r))
+    record { count = s .0 ∙ g .count; small = s .1 }
+
+pub moves-levels : Moves-levels
+unfolding Moves-levels Runs
+moves-levels T t u a c ss g le r =
+    (back-good t u ss g, move-runs t u ss T a c [] _ (omega (arith, g .count)) le r (λ T' a' c' e r' o. (rw (g .count) at e, r')))
+
+pub settles : Settles
+unfolding Settles
+settles T u a c ss r = settle-runs u u ss T a c (omega arith) r
+
+pub goes-back : Goes-back
+unfolding Goes-back
+goes-back T t u a ss g le r = (back-good t u ss g, rw (g .count) at (back-runs t u ss T a (omega arith) le r))
 
 pub kept-near : Kept-near
 unfolding Kept-near
