@@ -18,6 +18,7 @@ use Rattle.checkpoints.proofs.Plans.{Goal}
 use Rattle.checkpoints.proofs.Search.{ready-low}
 use Rattle.checkpoints.proofs.Stand.{room, starts, restarts, arrives-ready, goes-forward, goes-back, finds-back, finds-none}
 use Rattle.checkpoints.proofs.Arriving.{arrival-few, beginning-few}
+use Rattle.checkpoints.proofs.LevelUp.{last-few}
 
 -- nothing past the last slot
 abbrev Bare : Table → Type 0
@@ -60,4 +61,5 @@ slots-few = (
       ),
   arrival-few,
   beginning-few,
+  last-few,
 )

@@ -40,6 +40,7 @@ Slots-few =
     × ((u : ℕ) → 0 < u → u ≤ t → Few (search-back t u ss)))
     × ((n i : ℕ) → Slot-few (arrival-slot n i))
     × ((i : ℕ) → Slot-few (beginning-slot i))
+    × ((ss : List ℕ) (t y : ℕ) → length ss ≡ levels → y < most-time → last-kept ss t y .slot-is < slots)
 
 -- There is a table for each time: so no two states that are to be kept at once share a slot.
 unfoldable pub Can-be-ready : Type 0
