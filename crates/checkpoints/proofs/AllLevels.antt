@@ -8,11 +8,12 @@ use native.Mathlib.Nat.{mul-le-mul-right}
 use native.Mathlib.Omega.{arith}
 use lib.ListN.{length}
 use Rattle.std.proofs.shelf.Tests.{cases-eq, cases-lt}
-use Rattle.checkpoints.specs.Slots.{Table, put, Act, take, go, keep, Runs}
+use Rattle.checkpoints.specs.Slots.{Table, Act, take, go, keep, Runs}
 use Rattle.checkpoints.specs.Policy.{time, slot, Spot, spot, above, levels-back, levels-gaps, move-levels, settle, back, back-gaps}
 use Rattle.checkpoints.specs.Ready.{Points, Built, Below, Level, Levels, Ready}
 use Rattle.checkpoints.proofs.Tables.{slot-in, Others}
-use Rattle.checkpoints.proofs.Plans.{Goal, Over}
+use Rattle.checkpoints.proofs.Carried.{Goal, runs-less}
+use Rattle.checkpoints.proofs.Plans.{Over}
 use Rattle.checkpoints.proofs.OneLevel.{time-of, Fits, Before, level-runs}
 
 -- an earlier time has no greater number
@@ -139,14 +140,6 @@ settle-runs far u ss T a c h l = (last-two 0 4096 T (u / 4096) (u % 4096) ss (u 
 pub settle-gaps : (t u : ℕ) (ss : List ℕ) → settle u (back-gaps t u ss) ≡ settle u ss
 unfolding settle back-gaps
 settle-gaps t u ss = ap (λ k. take k (u / 4096 * 4096) ∷ go (u % 4096) ∷ []) (above-gaps 0 4096 (t / 4096) (t % 4096) (u / 4096) (u % 4096) ss (u / 4096))
-
--- what holds at the end may say less
-pub runs-less : (far : ℕ) (acts : List Act) (T : Table) (a c : ℕ) (P Q : Goal) → ((T' : Table) (a' c' : ℕ) → P T' a' c' → Q T' a' c') → Runs far acts T a c P → Runs far acts T a c Q
-unfolding Runs
-runs-less far [] T a c P Q f h = f T a c h
-runs-less far (take k x ∷ rest) T a c P Q f h = (h .0, runs-less far rest T x c P Q f (h .1))
-runs-less far (go n ∷ rest) T a c P Q f h = (h .0, runs-less far rest T (a + n) (c + n) P Q f (h .1))
-runs-less far (keep k ∷ rest) T a c P Q f h = (h .0, runs-less far rest (put T k a) a c P Q f (h .1))
 
 pub back-runs : (t u : ℕ) (ss : List ℕ) (T : Table) (a : ℕ) → length ss ≤ 15 → u ≤ t → Ready T t ss →
     Runs t (back t u ss) T a 0 (λ T' a' c'. (a' ≡ u) × (c' ≤ 4096 + length ss * (t - u)) × Ready T' u (back-gaps t u ss))

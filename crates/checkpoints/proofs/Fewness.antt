@@ -14,7 +14,7 @@ use Rattle.checkpoints.specs.Slots.{Table, put, Act, take, go, keep, Runs, Few
 use Rattle.checkpoints.specs.Ready.{Ready}
 use Rattle.checkpoints.specs.Statements.{Gaps, Slots-few, Starts, Restarts, Arrives-ready, Goes-forward, Goes-back, Finds-back, Finds-none}
 use Rattle.checkpoints.proofs.Tables.{put-else}
-use Rattle.checkpoints.proofs.Plans.{Goal}
+use Rattle.checkpoints.proofs.Carried.{Goal}
 use Rattle.checkpoints.proofs.Search.{ready-low}
 use Rattle.checkpoints.proofs.Stand.{room, starts, restarts, arrives-ready, goes-forward, goes-back, finds-back, finds-none}
 use Rattle.checkpoints.proofs.Arriving.{arrival-few, beginning-few}

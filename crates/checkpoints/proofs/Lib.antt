@@ -1,5 +1,6 @@
 -- The lemmas of this crate, module by module.
 pub mod Tables
+pub mod Carried
 pub mod Plans
 pub mod OneLevel
 pub mod AllLevels

@@ -11,7 +11,7 @@ use Rattle.checkpoints.specs.Slots.{Table, put, Act, Runs}
 use Rattle.checkpoints.specs.Policy.{spot, Kept, last-kept, look-in, look, search-back, search-none, back-gaps}
 use Rattle.checkpoints.specs.Ready.{Level, Levels, Ready}
 use Rattle.checkpoints.proofs.Tables.{put-here, put-else}
-use Rattle.checkpoints.proofs.Plans.{Goal}
+use Rattle.checkpoints.proofs.Carried.{Goal}
 use Rattle.checkpoints.proofs.AllLevels.{level-left, move-runs}
 use Rattle.checkpoints.proofs.Looking.{Near, near-kept}
 

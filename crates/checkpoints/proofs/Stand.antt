@@ -7,24 +7,16 @@ use native.Mathlib.Nat.{mul-le-mul-right}
 use native.Mathlib.Omega.{arith}
 use lib.ListN.{length}
 use Rattle.checkpoints.specs.Numbers.{stride, levels, slots, most-time}
-use Rattle.checkpoints.specs.Slots.{Table, Act, take, go, keep, put, Runs}
+use Rattle.checkpoints.specs.Slots.{Table, Runs}
 use Rattle.checkpoints.specs.Policy.{gaps-in, arrive-gaps, strides-gaps, forward, forward-gaps, level-gap, levels-gaps, back-gaps, last-kept}
 use Rattle.checkpoints.specs.Ready.{Levels, Ready}
 use Rattle.checkpoints.specs.Statements.{Small, Gaps, Slots-apart, Can-be-ready, Starts, Restarts, Stays-ready, Arrives-ready, Goes-forward, Moves-levels, Settles, Goes-back, Kept-near, Finds-back, Finds-none}
 use Rattle.checkpoints.proofs.Tables.{slot-in, points-apart, blocks-apart}
-use Rattle.checkpoints.proofs.Plans.{Goal}
+use Rattle.checkpoints.proofs.Carried.{runs-end}
 use Rattle.checkpoints.proofs.AllLevels.{move-runs, settle-runs, back-runs}
 use Rattle.checkpoints.proofs.Forward.{ready-later, arrive-runs, arrive-length, forward-runs, start-runs, restart-runs}
 use Rattle.checkpoints.proofs.Looking.{near-kept}
 use Rattle.checkpoints.proofs.Search.{search-back-runs, search-none-runs}
-
--- what can be carried out has an end
-runs-end : (far : ℕ) (acts : List Act) (T : Table) (a c : ℕ) (Q : Goal) → Runs far acts T a c Q → (T' : Table) × (a' : ℕ) × (c' : ℕ) × Q T' a' c'
-unfolding Runs
-runs-end far [] T a c Q h = (T, a, c, h)
-runs-end far (take k x ∷ rest) T a c Q h = runs-end far rest T x c Q (h .1)
-runs-end far (go n ∷ rest) T a c Q h = runs-end far rest T (a + n) (c + n) Q (h .1)
-runs-end far (keep k ∷ rest) T a c Q h = runs-end far rest (put T k a) a c Q (h .1)
 
 -- gaps stay small
 gap-small : (s r d j : ℕ) → level-gap s r d j ≤ r
