@@ -15,3 +15,7 @@ pub mod StopsAre
 pub mod Exact
 pub mod PastStays
 pub mod Shown
+pub mod Readers
+pub mod Digits
+pub mod Spellings
+mod ReaderExamples
