@@ -18,4 +18,6 @@ pub mod Shown
 pub mod Readers
 pub mod Digits
 pub mod Spellings
+pub mod Texts
+pub mod Many
 mod ReaderExamples

@@ -3,5 +3,7 @@ pub mod Plain
 pub mod Codes
 pub mod Breaks
 pub mod Reader
+pub mod Taken
+pub mod Told
 pub mod Statements
 pub mod Exact

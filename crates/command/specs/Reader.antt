@@ -1,5 +1,5 @@
 -- The reader of commands: which command a text spells, if any. Assumes nothing: these are definitions.
--- A reader takes what it reads off the front of a text, and leaves the rest. A new command is one more way in `command-ways`.
+-- A reader takes what it reads off the front of a text, and leaves the rest. A new command is one more way in `order-ways`.
 use mathlib.Core.Path.{_≡_}
 use mathlib.Core.Bool.{Bool, true, false, _&&_}
 use mathlib.Core.List.{List, [], _∷_, _++_}
@@ -141,11 +141,10 @@ a-break-of p = record { id = 0; place = p .0 .0; tests = p .0 .1; changed = p .1
 unfoldable pub break : Reader Break
 break = as-a a-break-of (both (both (counted 1 place) (λ p. counted 8 test)) (λ pt. counted 1 place))
 
-abbrev pub command-ways : List (Way Command)
-command-ways =
-    way 1 (as-a load (counted 4096 instr))
-    ∷ way 2 (as-a give (counted 4096 word))
-    ∷ way 3 (as-a forward steps)
+-- commands but for those that have a list
+abbrev pub order-ways : List (Way Command)
+order-ways =
+    way 3 (as-a forward steps)
     ∷ way 4 (as-a back steps)
     ∷ way 5 (as-a run steps)
     ∷ way 6 (as-a rerun steps)
@@ -157,6 +156,9 @@ command-ways =
     ∷ way 12 (as-a (λ p. words-from (p .0) (p .1)) (two place (number (up-to 4096))))
     ∷ way 13 (as-a (λ p. outs-from (p .0) (p .1)) (two any-number (number (up-to 4096))))
     ∷ []
+
+abbrev pub command-ways : List (Way Command)
+command-ways = way 1 (as-a load (counted 4096 instr)) ∷ way 2 (as-a give (counted 4096 word)) ∷ order-ways
 
 unfoldable pub command : Reader Command
 command = by-first command-ways
