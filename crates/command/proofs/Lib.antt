@@ -20,4 +20,5 @@ pub mod Digits
 pub mod Spellings
 pub mod Texts
 pub mod Many
+pub mod Whole
 mod ReaderExamples

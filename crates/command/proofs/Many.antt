@@ -2,10 +2,11 @@
 use mathlib.Core.Path.{_≡_, refl, sym, _∙_, ap, subst}
 use mathlib.Core.List.{List, [], _∷_, _++_, append-assoc, append-nil}
 use Prim.Native.Nat.{ℕ, zero, suc, _+_, _-_, _<_, _≤_}
-use lib.ListN.{length, take, set, length-append}
+use lib.ListN.{length, take, set}
 use native.Mathlib.Omega.{arith}
 use Rattle.std.proofs.shelf.Lists.{take-more-set}
 use Rattle.command.specs.Machine.{each}
+use Rattle.command.specs.Told.{listed}
 use Rattle.command.specs.Reader.{Got, nothing, got, Reader, bind, as-a, so-many, counted, number, up-to}
 
 -- what was put into another form was read
@@ -50,15 +51,31 @@ module _ {A : Type 0} (r : Reader A) (m : ℕ) (t₀ : List ℕ) where
   unfolding so-many
   left-end k done t z h = h ∙ (ap (λ j. as-a (λ xs. done ++ xs) (so-many r j) t) z ∙ ap (λ l. got l t) (append-nil done))
 
-pub length-more : {A : Type 0} (done : List A) (a : A) → length (done ++ a ∷ []) ≡ length done + 1
-length-more done a = length-append done (a ∷ [])
+-- what was read is what is listed
+pub got-listed : {A : Type 0} {g : Got (List A)} {xs : List A} {u : List ℕ} → g ≡ got xs u → g ≡ got (listed g) u
+got-listed {g} {u} e = e ∙ sym (ap (λ x. got (listed x) u) e)
 
--- one turn of a loop that only counts
-pub turn-more : {A : Type 0} (r : Reader A) (m : ℕ) (t₀ : List ℕ) (i : ℕ) (done : List A) (t : List ℕ) {a : A} {u : List ℕ} → i < m → length done ≡ i → Left r m t₀ (m - i) done t → r t ≡ got a u
-    → (done : List A) × (length done ≡ i + 1) × Left r m t₀ (m - (i + 1)) done u
-turn-more r m t₀ i done t {a} {u} l n h e =
-    let z : m - i ≡ suc (m - (i + 1)) = omega arith in
-    (done ++ a ∷ [], length-more done a ∙ ap (λ k. k + 1) n, left-more r m t₀ _ _ done t z h e)
+-- as many as were asked for
+abbrev Long : {A : Type 0} → ℕ → Got (List A) → Type 0
+Long n nothing = Unit {0}
+Long n (got xs u) = length xs ≡ n
+
+long-more : {A : Type 0} (n : ℕ) (a : A) (g : Got (List A)) → Long n g → Long (suc n) (bind g (λ xs v. got (a ∷ xs) v))
+long-more n a nothing h = tt
+long-more n a (got xs u) h = ap suc h
+
+module _ {A : Type 0} (r : Reader A) where
+  long-next : (n : ℕ) (g : Got A) → ((u : List ℕ) → Long n (so-many r n u)) → Long (suc n) (bind g (λ a u. bind (so-many r n u) (λ xs v. got (a ∷ xs) v)))
+  long-next n nothing again = tt
+  long-next n (got a u) again = long-more n a (so-many r n u) (again u)
+
+  long : (n : ℕ) (t : List ℕ) → Long n (so-many r n t)
+  unfolding so-many
+  long zero t = refl
+  long (suc n) t = long-next n (r t) (long n)
+
+  pub so-many-length : (n : ℕ) (t : List ℕ) {xs : List A} {u : List ℕ} → so-many r n t ≡ got xs u → length xs ≡ n
+  so-many-length n t e = subst (Long n) e (long n t)
 
 -- at most one thing, behind a count that is known
 module _ {A : Type 0} (r : Reader A) (max : ℕ) (t : List ℕ) where
@@ -69,9 +86,9 @@ module _ {A : Type 0} (r : Reader A) (max : ℕ) (t : List ℕ) where
   unfolding so-many
   counted-zero {n} {u} e z = counted-at e ∙ ap (λ k. so-many r k u) z
 
-  pub counted-one : {n : ℕ} {u v : List ℕ} {a : A} → number (up-to max) t ≡ got n u → n ≡ 1 → r u ≡ got a v → counted max r t ≡ got (a ∷ []) v
+  pub counted-one : {n : ℕ} {u : List ℕ} (v : List ℕ) {a : A} → number (up-to max) t ≡ got n u → n ≡ 1 → r u ≡ got a v → counted max r t ≡ got (a ∷ []) v
   unfolding so-many
-  counted-one {n} {u} e z h = counted-at e ∙ (ap (λ k. so-many r k u) z ∙ ap (λ g. bind g (λ a u. got (a ∷ []) u)) h)
+  counted-one {n} {u} v e z h = counted-at e ∙ (ap (λ k. so-many r k u) z ∙ ap (λ g. bind g (λ a u. got (a ∷ []) u)) h)
 
   pub counted-one-none : {n : ℕ} {u : List ℕ} → number (up-to max) t ≡ got n u → n ≡ 1 → r u ≡ nothing → counted max r t ≡ nothing
   unfolding so-many
@@ -84,3 +101,14 @@ each-append f (x ∷ xs) ys = ap (λ l. f x ∷ l) (each-append f xs ys)
 -- one more in its place
 pub each-set : {A B : Type 0} (f : A → B) (i : ℕ) (xs : List A) (x : A) → i < length xs → each f (take (i + 1) (set xs i x)) ≡ each f (take i xs) ++ f x ∷ []
 each-set f i xs x h = ap (each f) (take-more-set xs i x h) ∙ each-append f (take i xs) (x ∷ [])
+
+-- a counted list, read part by part
+module _ {A : Type 0} (r : Reader A) (max : ℕ) (t : List ℕ) {n : ℕ} {u : List ℕ} (e : number (up-to max) t ≡ got n u) where
+  counted-listed : {v : List ℕ} → so-many r n u ≡ got (listed (so-many r n u)) v → counted max r t ≡ got (listed (counted max r t)) v
+  counted-listed h = got-listed (counted-at r max t e ∙ h)
+
+  pub counted-as : {B : Type 0} (f : List A → B) (v : List ℕ) → so-many r n u ≡ got (listed (so-many r n u)) v → as-a f (counted max r) t ≡ got (f (listed (counted max r t))) v
+  counted-as f v h = ap (λ g. bind g (λ a w. got (f a) w)) (counted-listed h)
+
+  pub counted-length : (v : List ℕ) → so-many r n u ≡ got (listed (so-many r n u)) v → n ≡ length (listed (counted max r t))
+  counted-length v h = sym (so-many-length r n u (sym (counted-at r max t e) ∙ counted-listed h))

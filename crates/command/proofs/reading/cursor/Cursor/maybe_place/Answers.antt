@@ -16,4 +16,4 @@ returns-in-Break-place c =
 pub returns : need.returns
 returns c =
     let h = c .in-Continue-count .ensures tt .within in
-    counted-one place 1 (left (c .args .self .now)) (c .in-Continue-count .ensures tt .takes) (omega arith) (c .in-Continue-place .ensures tt)
+    counted-one place 1 (left (c .args .self .now)) (left (c .place .last .self)) (c .in-Continue-count .ensures tt .takes) (omega arith) (c .in-Continue-place .ensures tt)
