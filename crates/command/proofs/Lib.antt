@@ -21,4 +21,5 @@ pub mod Spellings
 pub mod Texts
 pub mod Many
 pub mod Whole
+pub mod Writes
 mod ReaderExamples

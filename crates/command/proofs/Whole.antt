@@ -17,6 +17,9 @@ pub command-at : (t : List ℕ) {k : ℕ} {u : List ℕ} → first t ≡ got k u
 unfolding command
 command-at t e = ap (λ g. bind g (one-of command-ways)) e
 
+pub command-is : (t : List ℕ) (c : Command) {k : ℕ} {u : List ℕ} (v : List ℕ) → first t ≡ got k u → one-of command-ways k u ≡ got c v → command t ≡ got c v
+command-is t c v e h = command-at t e ∙ h
+
 pub rest-is : (t : List ℕ) {k : ℕ} {u : List ℕ} → first t ≡ got k u → u ≡ drop 1 t
 unfolding first
 rest-is [] e = absurd (let z : _≡_ {A = ℕ} 0 1 = cc in omega arith)

@@ -5,5 +5,6 @@ pub mod Breaks
 pub mod Reader
 pub mod Taken
 pub mod Told
+pub mod Written
 pub mod Statements
 pub mod Exact

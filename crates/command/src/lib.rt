@@ -4,3 +4,4 @@ pub mod code;
 pub mod commands;
 pub mod reading;
 pub mod statements;
+pub mod writing;

@@ -6,7 +6,7 @@ use Rattle.std.proofs.shelf.Tests.{ltb-true, ltb-false}
 use Rattle.command.specs.Reader.{Says}
 use Rattle.command.specs.Told.{told, Counts}
 use Rattle.command.specs.Taken.{left}
-use Rattle.command.proofs.Whole.{command-none, command-at, rest-is, refused-none, refused-left, accepted}
+use Rattle.command.proofs.Whole.{command-none, command-at, command-is, rest-is, refused-none, refused-left, accepted}
 use Rattle.command.proofs.reading.read.Needs as need
 
 pub returns-in-rest : need.returns-in-rest
@@ -19,11 +19,14 @@ returns-in-rest-command-of c =
 pub returns-in-rest-rest : need.returns-in-rest-rest
 returns-in-rest-rest c =
     let t = c .args .text .now in
-    (refl, refused-left t (left (c .command-of .last .self)) (command-at t (c .in-Some .ensures tt) ∙ c .in-Some-command-of .ensures tt .takes) (omega (arith, ltb-true, ltb-false)))
+    let u = left (c .command-of .last .self) in
+    let x = told (left (c .first .last .self)) (c .in-Some-command-of .command) in
+    (refl, refused-left t u (command-is t x u (c .in-Some .ensures tt) (c .in-Some-command-of .ensures tt .takes)) (omega (arith, ltb-true, ltb-false)))
 
 pub returns : need.returns
 returns c =
     let t = c .args .text .now in
     let x = c .in-Some-command-of .command in
-    let says = accepted t (left (c .command-of .last .self)) (command-at t (c .in-Some .ensures tt) ∙ c .in-Some-command-of .ensures tt .takes) (omega (arith, ltb-true, ltb-false)) in
+    let v = left (c .command-of .last .self) in
+    let says = accepted t v (command-is t (told (left (c .first .last .self)) x) v (c .in-Some .ensures tt) (c .in-Some-command-of .ensures tt .takes)) (omega (arith, ltb-true, ltb-false)) in
     subst (λ (u : List ℕ). Says t (told u x) × Counts u x) (rest-is t (c .in-Some .ensures tt)) (says, c .in-Some-command-of .ensures tt .counted)

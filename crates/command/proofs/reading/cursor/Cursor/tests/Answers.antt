@@ -24,7 +24,7 @@ loop-i-again c =
     let s = each-set test-of (c .loop-i .i) ts (c .in-Continue-test .test) few in (
       simp length-set (c .loop-i .inv .0),
       subst (λ (l : List Asked). Left test (c .args .count) (left (c .args .self .now)) (c .args .count - (c .loop-i .i + 1)) l (left (c .test .last .self))) (sym s)
-      (left-more test _ _ _ _ _ (left (c .loop-i .self)) e (c .loop-i .inv .1) (c .in-Continue-test .ensures tt)),
+          (left-more test _ _ _ _ _ (left (c .loop-i .self)) e (c .loop-i .inv .1) (c .in-Continue-test .ensures tt)),
     )
 
 pub returns : need.returns
