@@ -1,0 +1,1 @@
+// The debugger as a machine: its memory, its phases, one step.
