@@ -12,11 +12,11 @@ use Rattle.std.proofs.shelf.Tests.{cases-lt, lt-ltb, le-ltb}
 use Rattle.checkpoints.specs.Numbers.{stride, levels, slots, here, most-time}
 use Rattle.checkpoints.specs.Slots.{Table, put, Act, take, go, keep, Runs, Few}
 use Rattle.checkpoints.specs.Ready.{Ready}
-use Rattle.checkpoints.specs.Statements.{Gaps, Slots-few, Starts, Restarts, Arrives-ready, Goes-forward, Goes-back, Finds-back, Finds-none}
+use Rattle.checkpoints.specs.Statements.{Gaps, Slots-few, Starts, Restarts, Arrives-ready, Goes-forward, Moves-levels, Settles, Goes-back, Finds-back, Finds-none}
 use Rattle.checkpoints.proofs.Tables.{put-else}
 use Rattle.checkpoints.proofs.Carried.{Goal}
 use Rattle.checkpoints.proofs.Search.{ready-low}
-use Rattle.checkpoints.proofs.Stand.{room, starts, restarts, arrives-ready, goes-forward, goes-back, finds-back, finds-none}
+use Rattle.checkpoints.proofs.Stand.{room, starts, restarts, arrives-ready, goes-forward, moves-levels, settles, goes-back, finds-back, finds-none}
 use Rattle.checkpoints.proofs.Arriving.{arrival-few, beginning-few}
 use Rattle.checkpoints.proofs.LevelUp.{last-few}
 
@@ -45,7 +45,7 @@ unfolding bare
 bare-bare T k h = rw (le-ltb k slots h)
 
 pub slots-few : Slots-few
-unfolding Slots-few Starts Restarts Arrives-ready Goes-forward Goes-back Finds-back Finds-none
+unfolding Slots-few Starts Restarts Arrives-ready Goes-forward Moves-levels Settles Goes-back Finds-back Finds-none
 slots-few = (
   λ T t ss g h r.
       let T' = bare T in
@@ -54,8 +54,10 @@ slots-few = (
         runs-few 0 _ T' 0 0 _ b (starts ss T' g),
         runs-few 0 _ T' 0 0 _ b (restarts T' t 0 ss g r'),
         runs-few t _ T' t 0 _ b (finds-none T' t ss g h r'),
+        runs-few t _ T' 0 0 _ b (settles T' t 0 0 ss r'),
         λ hn. runs-few 0 _ T' _ 0 _ b (arrives-ready T' t (t / 4096) 0 ss g hn refl r' .1),
         λ u le hu. runs-few u _ T' t 0 _ b (goes-forward T' t u ss g le hu r' .1),
+        λ u le. runs-few t _ T' 0 0 _ b (moves-levels T' t u 0 0 ss g le r' .1),
         λ u le. runs-few t _ T' 0 0 _ b (goes-back T' t u 0 ss g le r' .1),
         λ u pos le. runs-few t _ T' 0 0 _ b (finds-back T' t u 0 ss g h pos le r'),
       ),

@@ -183,8 +183,7 @@ last-from v g (s ∷ ss) n n' = last-at v g s n n' (n / fan - n' / fan) (last-fr
 unfoldable pub last-kept : List ℕ → ℕ → ℕ → Kept
 last-kept ss t y = last-from 0 stride ss (t / stride) (y / stride)
 
--- Looking back.
--- The time is t; from a kept state y go on to x, to look through what is between. What is looked for is at u, e after y: then keep it. It is before y: look on, by back.
+-- Looking back. The time is t; from a kept state y go on to x, to look through what is between. What is looked for is at u, e after y: then keep it. It is before y: look on, by back.
 unfoldable pub look-in : ℕ → ℕ → ℕ → ℕ → (List Act → List Act) → List Act → List Act
 look-in u x y zero on rest = go (x - y) ∷ on rest
 look-in u x y (suc e) on rest = go (suc e) ∷ keep hit ∷ go (x - u) ∷ rest

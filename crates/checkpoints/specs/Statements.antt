@@ -33,9 +33,10 @@ Slots-apart =
 unfoldable pub Slots-few : Type 0
 Slots-few =
     ((T : Table) (t : ℕ) (ss : List ℕ) → Gaps ss → t < most-time → Ready T t ss →
-    Few (start 0 ss []) × Few (restart ss) × Few (search-none t ss)
+    Few (start 0 ss []) × Few (restart ss) × Few (search-none t ss) × Few (settle t ss)
     × (suc (t / stride) * stride < most-time → Few (arrive 0 (suc (t / stride)) ss []))
     × ((u : ℕ) → t ≤ u → u < most-time → Few (forward t u ss))
+    × ((u : ℕ) → u ≤ t → Few (move-levels t u ss []))
     × ((u : ℕ) → u ≤ t → Few (back t u ss))
     × ((u : ℕ) → 0 < u → u ≤ t → Few (search-back t u ss)))
     × ((n i : ℕ) → Slot-few (arrival-slot n i))
