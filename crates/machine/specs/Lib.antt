@@ -1,2 +1,3 @@
 pub mod Promise
 pub mod Engine
+pub mod Plans

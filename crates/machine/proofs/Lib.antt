@@ -1,0 +1,9 @@
+-- The lemmas of this crate, module by module.
+pub mod Memory
+pub mod Runs
+pub mod GapCells
+pub mod Kept
+pub mod Stands
+pub mod Looks
+pub mod KeepsAll
+pub mod Loads

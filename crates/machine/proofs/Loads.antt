@@ -1,0 +1,1 @@
+-- The commands that begin anew and give: load and give. Assumes nothing.

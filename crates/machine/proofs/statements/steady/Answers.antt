@@ -1,0 +1,5 @@
+use Rattle.machine.proofs.statements.steady.Needs as need
+use Rattle.machine.proofs.Memory.{steady}
+
+pub returns : need.returns
+returns c = steady
