@@ -7,3 +7,5 @@ pub mod Stands
 pub mod Looks
 pub mod KeepsAll
 pub mod Loads
+pub mod Strides
+pub mod Arrives

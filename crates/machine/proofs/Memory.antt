@@ -110,3 +110,6 @@ cell-other these (w ∷ ws) m j p h =
 
 pub alike-written : {these : ℕ → Bool} (ws : List Write) (m : List ℕ) → passing these ws ≡ true → Alike these m (written ws m)
 alike-written {these} ws m p = record { size = length-written ws m; same = λ j h. cell-other these ws m j p h }
+
+pub alike-fewer : {these those : ℕ → Bool} {m m₁ : List ℕ} → ((j : ℕ) → these j ≡ true → those j ≡ true) → Alike those m m₁ → Alike these m m₁
+alike-fewer f a = record { size = a .size; same = λ j h. a .same j (f j h) }
