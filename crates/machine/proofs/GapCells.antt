@@ -1,15 +1,15 @@
 -- The gaps of the levels, as memory has them: a row of cells. What shutting some of them leaves. Assumes nothing.
 use mathlib.Core.Path.{_≡_, refl, sym, ap, _∙_}
-use mathlib.Core.Bool.{Bool, true, false}
+use mathlib.Core.Bool.{Bool}
 use mathlib.Core.List.{List, [], _∷_, _++_}
-use Prim.Native.Nat.{ℕ, zero, suc, _+_, _%_, _≤_, _<_}
+use Prim.Native.Nat.{ℕ, zero, suc, _+_, _≤_, _<_}
 use native.Mathlib.Omega.{arith}
-use lib.Dec.{eqb, ltb, leb}
-use lib.ListN.{length, replicate, drop}
-use Rattle.std.proofs.shelf.Tests.{eqb-true, eqb-false, eq-eqb, ne-eqb}
+use lib.Dec.{eqb}
+use lib.ListN.{replicate, drop}
+use Rattle.std.proofs.shelf.Tests.{eqb-true, eqb-false, ne-eqb}
 use Rattle.command.specs.Machine.{pick}
 use Rattle.command.proofs.Picks.{by-test}
-use Rattle.machine.specs.Engine.{Write, puts, written, cell, cells, gap, gaps-shut, limit}
+use Rattle.machine.specs.Engine.{cell, gap, gaps-shut}
 use Rattle.machine.proofs.Memory.{after}
 
 -- so many cells, from one on

@@ -1,12 +1,11 @@
 -- The states that are kept: each slot that a table speaks of holds the state at its time. Assumes nothing.
 use mathlib.Core.Path.{_≡_, refl, sym, ap, subst, _∙_}
-use mathlib.Core.Bool.{Bool, true, false}
-use mathlib.Core.List.{List, [], _∷_, _++_}
+use mathlib.Core.Bool.{false}
+use mathlib.Core.List.{List, [], _∷_}
 use mathlib.Core.Logic.{_⊎_, inl, inr, ⊎-elim}
-use mathlib.Core.Option.{Option, none, some}
-use Prim.Native.Nat.{ℕ, zero, suc, _+_, _*_, _/_, _≤_, _<_}
+use mathlib.Core.Option.{none, some}
+use Prim.Native.Nat.{ℕ, zero, suc, _/_, _≤_}
 use native.Mathlib.Omega.{arith}
-use lib.Dec.{eqb}
 use Rattle.std.proofs.shelf.Tests.{ne-eqb, cases-eq}
 use Rattle.command.specs.Machine.{State, is-running, state-at, one, goes-on}
 use Rattle.command.specs.Plain.{Plain, at-time, moved, on-till}
@@ -40,9 +39,10 @@ states-kept w t sl T j r s k x h =
     ⊎-elim
     (λ (e : k ≡ j).
     let f : some t ≡ some x = sym (put-here T j t) ∙ ap (put T j t) (sym e) ∙ h in
-    let tx : t ≡ x = cc in
-    ( ap (slot-of (slots-with w t sl j)) e ∙ kept-found (target-of (moved w t) sl) j ∙ ap (λ (z : ℕ). at-time w z ∷ []) tx
-    , subst (Runs-at w) tx r))
+    let tx : t ≡ x = cc in (
+      ap (slot-of (slots-with w t sl j)) e ∙ kept-found (target-of (moved w t) sl) j ∙ ap (λ (z : ℕ). at-time w z ∷ []) tx,
+      subst (Runs-at w) tx r,
+    ))
     (λ (d : k ≡ j → ⊥).
     let o = s k x (sym (put-else T j t k d) ∙ h) in
     (kept-others (target-of (moved w t) sl) j k (ne-eqb j k (λ e. d (sym e))) ∙ o .0, o .1))

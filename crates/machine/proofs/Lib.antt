@@ -9,3 +9,7 @@ pub mod KeepsAll
 pub mod Loads
 pub mod Strides
 pub mod Arrives
+pub mod Rides
+pub mod Forwards
+pub mod Promises
+pub mod Whole

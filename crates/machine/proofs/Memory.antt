@@ -1,9 +1,9 @@
 -- Memory under writes: it keeps its length and its numbers stay small; what a cell holds afterwards, and which cells stay. With it, that every engine
 -- that goes by plans is steady. Assumes nothing.
 use mathlib.Core.Path.{_≡_, refl, sym, ap, subst, _∙_}
-use mathlib.Core.Bool.{Bool, true, false, _&&_, not}
+use mathlib.Core.Bool.{Bool, true, false, not}
 use mathlib.Core.List.{List, [], _∷_}
-use Prim.Native.Nat.{ℕ, zero, suc, _+_, _%_, _≤_, _<_}
+use Prim.Native.Nat.{ℕ, zero, suc, _%_, _≤_, _<_}
 use native.Mathlib.Omega.{arith}
 use native.Mathlib.Nat.{mod-lt}
 use lib.Dec.{eqb, ltb, lit<, lit≤}
@@ -51,10 +51,11 @@ zeros (suc n) = zeros n
 
 pub steady-plans : (plans : Plans) → Steady (engine-of plans)
 unfolding Steady engine-of
-steady-plans plans =
-    ( subst (λ (k : ℕ). k ≤ 32000) (sym (length-replicate {A = ℕ} cells 0)) (lit≤ tt)
-    , zeros cells
-    , λ m ev. (carried-length (eqb (length m) cells) (plans m ev) m, carried-small (eqb (length m) cells) (plans m ev) m))
+steady-plans plans = (
+  subst (λ (k : ℕ). k ≤ 32000) (sym (length-replicate {A = ℕ} cells 0)) (lit≤ tt),
+  zeros cells,
+  λ m ev. (carried-length (eqb (length m) cells) (plans m ev) m, carried-small (eqb (length m) cells) (plans m ev) m),
+)
 
 -- this crate's engine goes by its plans
 pub own-plans : engine-of planned ≡ own

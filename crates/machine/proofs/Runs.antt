@@ -1,10 +1,10 @@
 -- How a run of an engine goes, act by act: what is left to show after each, and in how many turns. Assumes nothing.
-use mathlib.Core.Path.{_≡_, refl, sym, ap, subst, _∙_}
-use mathlib.Core.Bool.{Bool, true, false}
+use mathlib.Core.Path.{_≡_, sym, ap, subst, _∙_}
+use mathlib.Core.Bool.{Bool, true}
 use mathlib.Core.List.{List, [], _∷_, _++_}
 use Prim.Native.Nat.{ℕ, zero, suc, _+_, _≤_}
 use native.Mathlib.Omega.{arith}
-use lib.Dec.{eqb, ltb, leb}
+use lib.Dec.{ltb, leb}
 use lib.ListN.{length, take, drop}
 use Rattle.std.proofs.shelf.Tests.{eq-eqb}
 use Rattle.command.specs.Machine.{pick, State, step}
@@ -33,8 +33,8 @@ Then plans b P t m ss k (feeds vs) = Ends plans b P (world (record { program = t
 Then plans b P t m ss k (goes n bs) =
     (leb (length bs) 64 ≡ true)
     × Ends plans b P (world (with-state t (going n (t .program) (t .fed) bs (t .state) 0 .state)) m)
-        (came (going n (t .program) (t .fed) bs (t .state) 0 .by) (going n (t .program) (t .fed) bs (t .state) 0 .hit) (going n (t .program) (t .fed) bs (t .state) 0 .why))
-        ss (k + going n (t .program) (t .fed) bs (t .state) 0 .by)
+    (came (going n (t .program) (t .fed) bs (t .state) 0 .by) (going n (t .program) (t .fed) bs (t .state) 0 .hit) (going n (t .program) (t .fed) bs (t .state) 0 .why))
+    ss (k + going n (t .program) (t .fed) bs (t .state) 0 .by)
 Then plans b P t m ss k (keeps j) = (ltb j 256 ≡ true) × Ends plans b P (world (keep-in t j) m) next ss k
 Then plans b P t m ss k (takes-up j) = (s : State) × (rest : List State) × (slot-of (t .slots) j ≡ s ∷ rest) × Ends plans b P (world (with-state t s) m) next ss k
 Then plans b P t m ss k looks-regs = Ends plans b P (world t m) (saw (t .state .regs)) ss k
@@ -82,4 +82,4 @@ acts {plans} {b} {P} {t} {m} {ev} {ss} {k} {ws} {a} e q h = record { from = by }
     by zero l = absurd (omega (arith, l))
     by (suc n) l =
         subst (λ (s : Step). P (one-act (λ w₁ ev₁ ss₁ k₁. runs n (engine-of plans) w₁ ev₁ ss₁ k₁) t ss k (s .memory) (s .act)))
-            (sym (stepped plans m ev ws a e q)) (after-act plans b P t (written ws m) ss k n (omega (arith, l)) a h)
+        (sym (stepped plans m ev ws a e q)) (after-act plans b P t (written ws m) ss k n (omega (arith, l)) a h)

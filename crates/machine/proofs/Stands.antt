@@ -2,8 +2,7 @@
 use mathlib.Core.Path.{_≡_, refl, sym, ap, subst, _∙_}
 use mathlib.Core.Bool.{Bool, true, false, _&&_}
 use mathlib.Core.List.{List, [], _∷_}
-use mathlib.Core.Logic.{_⊎_, inl, inr}
-use Prim.Native.Nat.{ℕ, zero, suc, _+_, _*_, _≤_, _<_}
+use Prim.Native.Nat.{ℕ, suc, _+_, _*_, _≤_}
 use native.Mathlib.Omega.{arith}
 use lib.Dec.{eqb, ltb, leb}
 use lib.ListN.{length}
@@ -11,14 +10,14 @@ use Rattle.std.proofs.shelf.Tests.{and-from, le-leb, lt-ltb}
 use Rattle.command.specs.Machine.{or}
 use Rattle.command.specs.Plain.{Command, fits, Plain, Turn, turn, may-step, billion}
 use Rattle.command.proofs.PastStays.{Runs-at}
-use Rattle.target.specs.Run.{Event, said, next, Slot, Target, World, Ran, world, ran, done}
+use Rattle.target.specs.Run.{Event, said, next, Slot, Target, Ran, world, ran, done}
 use Rattle.checkpoints.specs.Statements.{Gaps}
-use Rattle.machine.specs.Engine.{Write, puts, written, Plan, plan, planned, begin, on-next, cell, cells, phase, time, fed, gap, idle, ending}
+use Rattle.machine.specs.Engine.{puts, written, planned, begin, on-next, cell, cells, phase, time, fed, idle, ending}
 use Rattle.machine.specs.Promise.{most-turns}
 use Rattle.machine.specs.Plans.{Plans, Agrees, phases, told}
 use Rattle.machine.proofs.Memory.{Alike}
 use Rattle.machine.proofs.Runs.{Ends, acts}
-use Rattle.machine.proofs.GapCells.{row, gaps-of, row-same}
+use Rattle.machine.proofs.GapCells.{gaps-of, row-same}
 use Rattle.machine.proofs.Kept.{target-of, Kept}
 
 -- LASTING CELLS keep what they hold from command to command; the others belong to the command under way
@@ -87,9 +86,13 @@ gap-lasting j h = or-last _ _ (gap-untimed j h)
 pub lasts-alike : {w : Plain} {sl : List Slot} {m m₁ : List ℕ} → Lasts w sl m → Alike lasting m m₁ → Lasts w sl m₁
 lasts-alike {w} {sl} h a =
     let g = sym (gaps-alike gap-lasting a) in
-    record
-    { sized = a .size ∙ h .sized; time-is = a .same time refl ∙ h .time-is; fed-is = a .same fed refl ∙ h .fed-is
-    ; gaps = subst Gaps g (h .gaps); kept = subst (λ (s : List ℕ). Kept w sl s) g (h .kept) }
+    record {
+      sized = a .size ∙ h .sized;
+      time-is = a .same time refl ∙ h .time-is;
+      fed-is = a .same fed refl ∙ h .fed-is;
+      gaps = subst Gaps g (h .gaps);
+      kept = subst (λ (s : List ℕ). Kept w sl s) g (h .kept);
+    }
 
 pub fair-less : {left : ℕ} {w : Plain} → Fair (suc left) w → Fair left w
 fair-less {left} {w} h = record { running = h .running; soon = omega (arith, h .soon); no-breaks = h .no-breaks; no-ids = h .no-ids }

@@ -1,19 +1,19 @@
 -- A stride: where going on by some of the steps that are left comes to, and how many are left then. Assumes nothing.
 use mathlib.Core.Path.{_≡_, refl, sym, ap, subst, _∙_}
 use mathlib.Core.Bool.{Bool, true, false, _&&_, not}
-use mathlib.Core.List.{List, []}
-use mathlib.Core.Logic.{_⊎_, inl, inr, ⊎-elim}
-use Prim.Native.Nat.{ℕ, zero, suc, _+_, _-_, _/_, _%_, _≤_, _<_}
+use mathlib.Core.List.{[]}
+use mathlib.Core.Logic.{_⊎_, ⊎-elim}
+use Prim.Native.Nat.{ℕ, suc, _+_, _-_, _%_, _≤_, _<_}
 use native.Mathlib.Omega.{arith}
 use native.Mathlib.Nat.{mod-lt}
 use lib.Dec.{eqb, ltb, lit<}
 use Rattle.std.proofs.shelf.Tests.{ltb-true, ltb-false, ne-eqb, false≢true}
-use Rattle.command.specs.Machine.{pick, is-running, goes-on}
+use Rattle.command.specs.Machine.{pick, goes-on}
 use Rattle.command.specs.Plain.{Plain, at-time, on-till, status-number}
-use Rattle.command.proofs.Picks.{by-test, pick-both}
+use Rattle.command.proofs.Picks.{pick-both}
 use Rattle.command.proofs.Running.{reason-not-0}
 use Rattle.command.proofs.Stops.{on-stop}
-use Rattle.command.proofs.Times.{stopped, never-stopped, on-till-stuck, forward-cut}
+use Rattle.command.proofs.Times.{never-stopped, on-till-stuck, forward-cut}
 use Rattle.target.specs.Run.{Came, came-to, going}
 use Rattle.target.proofs.GoingTill.{came-at, going-till}
 use Rattle.machine.specs.Engine.{stride, spacing}
@@ -52,18 +52,24 @@ module _ (w : Plain) (t a n : ℕ) (most : a ≤ n) where
       let s : goes-on (w .program) (w .ins) u ≡ false = stuck (ltb-true u (t + a) l) in
       let why : eqb y 0 ≡ false = ne-eqb y 0 (λ z. reason-not-0 _ s (sym e ∙ z)) in
       let none-left : pick (eqb y 0) (n - (0 + (u - t))) 0 ≡ 0 = ap (λ (x : Bool). pick x (n - (0 + (u - t))) 0) why in
-      record
-      { state = refl; by = omega (arith, on-stop w [] t a .0); far = on-stop w [] t a .1
-      ; fewer = omega (arith, none-left)
-      ; rest = ap (λ (x : ℕ). on-till w [] u x) none-left ∙ sym (on-till-stuck w [] u (n - a) s) ∙ cut }
+      record {
+        state = refl;
+        by = omega (arith, on-stop w [] t a .0);
+        far = on-stop w [] t a .1;
+        fewer = omega (arith, none-left);
+        rest = ap (λ (x : ℕ). on-till w [] u x) none-left ∙ sym (on-till-stuck w [] u (n - a) s) ∙ cut;
+      }
   came-so y false l e =
       let far : u ≡ t + a = omega (arith, on-stop w [] t a .1, ltb-false u (t + a) l) in
       let left : pick (eqb y 0) (n - (0 + (u - t))) 0 ≡ n - a =
-          ap (λ (x : ℕ). pick (eqb x 0) (n - (0 + (u - t))) 0) e ∙ ap (λ (x : ℕ). n - x) (by-a u t a far) in
-      record
-      { state = refl; by = omega (arith, on-stop w [] t a .0); far = on-stop w [] t a .1
-      ; fewer = omega (arith, left)
-      ; rest = ap (λ (x : ℕ). on-till w [] u x) left ∙ cut }
+      ap (λ (x : ℕ). pick (eqb x 0) (n - (0 + (u - t))) 0) e ∙ ap (λ (x : ℕ). n - x) (by-a u t a far) in
+      record {
+        state = refl;
+        by = omega (arith, on-stop w [] t a .0);
+        far = on-stop w [] t a .1;
+        fewer = omega (arith, left);
+        rest = ap (λ (x : ℕ). on-till w [] u x) left ∙ cut;
+      }
     where
       by-a : (x y z : ℕ) → x ≡ y + z → 0 + (x - y) ≡ z
       by-a x y z h = omega (arith, h)
@@ -71,7 +77,7 @@ module _ (w : Plain) (t a n : ℕ) (most : a ≤ n) where
   pub strode : Strode w t a n (going a (w .program) (w .ins) [] (at-time w t) 0)
   strode =
       subst (Strode w t a n) (sym (going-till w [] t a 0 ∙ plainly))
-          (came-so (pick (ltb u (t + a)) (status-number (at-time w (suc u) .status)) 0) (ltb u (t + a)) refl refl)
+      (came-so (pick (ltb u (t + a)) (status-number (at-time w (suc u) .status)) 0) (ltb u (t + a)) refl refl)
     where
       plainly : came-at w [] t a 0 u ≡ came-to (at-time w u) (0 + (u - t)) false (pick (ltb u (t + a)) (status-number (at-time w (suc u) .status)) 0)
       plainly = ap (λ (b : Bool). came-to (at-time w u) (0 + (u - t)) b (pick b 0 (pick (ltb u (t + a)) (status-number (at-time w (suc u) .status)) 0))) (never-stopped w t u)

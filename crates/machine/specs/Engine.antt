@@ -45,15 +45,20 @@ cells = 32000
 
 abbrev pub phase : ℕ
 phase = 0
+
 abbrev pub time : ℕ
 time = 1
+
 abbrev pub fed : ℕ
 fed = 2
+
 -- of the command under way: steps left, and the number of the next act of a plan
 abbrev pub steps-left : ℕ
 steps-left = 3
+
 abbrev pub cursor : ℕ
 cursor = 4
+
 -- one a level: by how much the block that is built below falls short
 abbrev pub gap : ℕ → ℕ
 gap v = 16 + v
@@ -61,16 +66,22 @@ gap v = 16 + v
 -- THE PHASES: what was done last, so what is to come
 abbrev pub idle : ℕ
 idle = 0
+
 abbrev pub ending : ℕ
 ending = 1
+
 abbrev pub beginning : ℕ
 beginning = 2
+
 abbrev pub going-on : ℕ
 going-on = 3
+
 abbrev pub keeping : ℕ
 keeping = 4
+
 abbrev pub placing : ℕ
 placing = 5
+
 abbrev pub telling : ℕ
 telling = 6
 
@@ -151,8 +162,8 @@ on-next p m =
     pick (eqb p ending) (plan (puts phase idle ∷ []) done)
     (pick (eqb p beginning) (kept-or (beginning-slot (cell m cursor)) (puts cursor (suc (cell m cursor)) ∷ []) (plan (puts phase idle ∷ []) done))
     (pick (eqb p keeping)
-        (kept-or (arrival-slot (cell m time / spacing) (cell m cursor)) (puts cursor (suc (cell m cursor)) ∷ []) (set-off [] (cell m time) (cell m steps-left)))
-        unexpected))
+    (kept-or (arrival-slot (cell m time / spacing) (cell m cursor)) (puts cursor (suc (cell m cursor)) ∷ []) (set-off [] (cell m time) (cell m steps-left)))
+    unexpected))
 
 unfoldable pub planned : List ℕ → Event → Plan
 planned m (said text) = begin-read m (read-command text)

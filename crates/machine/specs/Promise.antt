@@ -21,7 +21,7 @@ ran-as e n v t = runs n e v (said t) [] 0
 unfoldable pub May : (Command → Bool) → Plain → List ℕ → Ran → Plain → Type 0
 May known w text r w₁ =
     ((a : Command) × Said text a × (known a ≡ true)
-        × (r .end ≡ turn w a .reply) × (r .showed ≡ turn w a .shows) × (w₁ ≡ turn w a .next) × (r .steps ≤ may-step w a (turn w a)))
+    × (r .end ≡ turn w a .reply) × (r .showed ≡ turn w a .shows) × (w₁ ≡ turn w a .next) × (r .steps ≤ may-step w a (turn w a)))
     ⊎ (((a : Command) × Said text a × (known a ≡ false) × (r .end ≡ 2) × (r .showed ≡ []) × (r .steps ≡ 0) × (w₁ ≡ w))
     ⊎ (((a : Command) → Said text a → Never) × (r .end ≡ 1) × (r .showed ≡ []) × (r .steps ≡ 0) × (w₁ ≡ w)))
 

@@ -11,3 +11,25 @@ pub fn steady() -> u8
 {
     0
 }
+
+// For every command that the core knows it answers as the plain debugger does, within the steps granted and 2^64 - 1 turns; others are refused. So for 2^32
+// commands, whatever is said.
+pub fn holding_core() -> u8
+    ensures { λ _. ⌜ Holding core own ⌝ }
+{
+    0
+}
+
+// The main promise, for the core.
+pub fn whole_core() -> u8
+    ensures { λ _. ⌜ Whole core own ⌝ }
+{
+    0
+}
+
+// The promise turn by turn is at least the main one, of every engine.
+pub fn holding_is_whole() -> u8
+    ensures { λ _. ⌜ ((known : Command → Bool) (e : Engine) → Holding known e → Whole known e) ⌝ }
+{
+    0
+}

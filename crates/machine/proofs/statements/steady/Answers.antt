@@ -1,3 +1,4 @@
+-- What `steady` promises is proved in proofs/Memory.
 use Rattle.machine.proofs.statements.steady.Needs as need
 use Rattle.machine.proofs.Memory.{steady}
 
