@@ -16,13 +16,15 @@ use Rattle.std.proofs.shelf.Tests.{lt-ltb, eqb-true, both-ways, not-from-false}
 use Rattle.command.specs.Plain.{Plain, moved}
 use Rattle.command.proofs.Picks.{by-test}
 use Rattle.command.proofs.PastStays.{Runs-at}
-use Rattle.target.specs.Run.{next, keeps, Slot, Ran, world}
+use Rattle.command.proofs.Running.{runs-first}
+use Rattle.target.specs.Run.{Event, next, keeps, Slot, Ran, world}
 use Rattle.checkpoints.specs.Slots.{Table, put, Act, take, go, keep, Runs, act-at}
 use Rattle.checkpoints.specs.Arrivals.{as-keep}
-use Rattle.machine.specs.Engine.{Write, puts, written, Plan, kept-or, cell, cells, cursor, limit}
+use Rattle.machine.specs.Engine.{Write, puts, written, Plan, plan, kept-or, cell, cells, cursor, limit}
 use Rattle.machine.specs.Plans.{Plans}
 use Rattle.machine.proofs.Memory.{cell-put, Alike, alike-then, alike-written}
 use Rattle.machine.proofs.Runs.{Ends, acts}
+use Rattle.machine.proofs.Plays.{told-as, heard, plays}
 use Rattle.machine.proofs.Kept.{target-of, States, slots-with, states-kept}
 use Rattle.machine.proofs.Stands.{lasting}
 
@@ -58,43 +60,68 @@ lasting-uncounted j h =
     (λ e. absurd (both-ways (lasting cursor) refl (ap lasting (sym (eqb-true j cursor e)) ∙ h)))
     (λ e. not-from-false (eqb j cursor) e)
 
-module _ (plans : Plans) (b : ℕ) (P : Ran → Type 0) (w : Plain) (t : ℕ) (running : Runs-at w t) (m₀ : List ℕ) (sized : length m₀ ≡ cells)
-    (slot-at : ℕ → Option ℕ) (then : List ℕ → Plan) (Q : Table → ℕ → ℕ → Type 0) (ss : List (List ℕ)) (steps : ℕ)
-    (next-is : (m : List ℕ) → Alike uncounted m₀ m → plans m next ≡ kept-or (slot-at (cell m cursor)) (puts cursor (suc (cell m cursor)) ∷ []) (then m))
-    (after-all : (sl : List Slot) (m : List ℕ) (T : Table) (c : ℕ) → Alike uncounted m₀ m → States w sl T → Q T t c → plans m next ≡ then m →
-    Ends plans b P (world (target-of (moved w t) sl) m) next ss steps) where
-  -- from number i on, with these acts left
-  pub keeps-all : (left : List Act) (i : ℕ) (T : Table) (c : ℕ) (sl : List Slot) (m : List ℕ) → i + length left < limit → Runs 0 left T t c Q →
-      ((j : ℕ) → act-at left j ≡ as-keep (slot-at (i + j))) → Alike uncounted m₀ m → cell m cursor ≡ i → States w sl T →
-      Ends plans (length left + b) P (world (target-of (moved w t) sl) m) next ss steps
-  unfolding Runs act-at kept-or
-  keeps-all [] i T c sl m low r f a e s =
-      let o : slot-at i ≡ None = no-slot (slot-at i) (f 0 ∙ ap (λ (x : ℕ). as-keep (slot-at x)) (add-zero i)) in
-      subst (λ (x : ℕ). Ends plans x P (world (target-of (moved w t) sl) m) next ss steps) (sym (zero-plus b))
-      (after-all sl m T c a s r
-      (next-is m a ∙ ap (λ (x : ℕ). kept-or (slot-at x) (puts cursor (suc (cell m cursor)) ∷ []) (then m)) e
-      ∙ ap (λ (x : Option ℕ). kept-or x (puts cursor (suc (cell m cursor)) ∷ []) (then m)) o))
-    where
-      zero-plus : (x : ℕ) → 0 + x ≡ x
-      zero-plus x = omega arith
-  keeps-all (take k x ∷ left) i T c sl m low r f a e s = absurd (no-take (slot-at (i + 0)) k x (f 0))
-  keeps-all (go n ∷ left) i T c sl m low r f a e s = absurd (no-go (slot-at (i + 0)) n (f 0))
-  keeps-all (keep j ∷ left) i T c sl m low (few, r) f a e s =
-      let o : slot-at i ≡ Some j = the-slot (slot-at i) j (f 0 ∙ ap (λ (x : ℕ). as-keep (slot-at x)) (add-zero i)) in
-      let ws : List Write = puts cursor (suc (cell m cursor)) ∷ [] in
-      let sz : length m ≡ cells = a .size ∙ sized in
-      let c-is : cell (written ws m) cursor ≡ suc i = cell-put ws m cursor sz refl ∙ mod-eq-of-lt (omega (arith, e, low)) ∙ ap suc e in
-      subst (λ (x : ℕ). Ends plans x P (world (target-of (moved w t) sl) m) next ss steps) (suc-plus (length left) b)
-      (acts {ws = ws} {a = keeps j} sz
-      (next-is m a ∙ ap (λ (x : ℕ). kept-or (slot-at x) ws (then m)) e ∙ ap (λ (x : Option ℕ). kept-or x ws (then m)) o) (
-        lt-ltb j 256 (omega (arith, few)),
-        keeps-all left (suc i) (put T j t) c (slots-with w t sl j) (written ws m) (omega (arith, low)) r
-            (λ n. f (suc n) ∙ ap (λ (x : ℕ). as-keep (slot-at x)) (shifts i n)) (alike-then a (alike-written ws m refl)) c-is
-            (states-kept w t sl T j running s),
-      ))
-    where
-      suc-plus : (x y : ℕ) → suc (x + y) ≡ suc x + y
-      suc-plus x y = omega arith
+-- the cells but the count are as in m₀, the next act is number i, and these are left
+pub record Counting (m₀ : List ℕ) (slot-at : ℕ → Option ℕ) (left : List Act) (m : List ℕ) (ev : Event) : Type 0 where
+  pub number : ℕ
+  pub alike : Alike uncounted m₀ m
+  pub hears : ev ≡ next
+  pub count-is : cell m cursor ≡ number
+  pub low : number + length left < limit
+  pub so : (j : ℕ) → act-at left j ≡ as-keep (slot-at (number + j))
 
+module _ (plans : Plans) (b : ℕ) (P : Ran → Type 0) (w : Plain) (t : ℕ) (running : Runs-at w t) (m₀ : List ℕ) (sized : length m₀ ≡ cells)
+    (slot-at : ℕ → Option ℕ) (then : Plan) (R : Table → Type 0) (ss : List (List ℕ)) (steps : ℕ)
+    (next-is : (m : List ℕ) → Alike uncounted m₀ m → plans m next ≡ kept-or (slot-at (cell m cursor)) (puts cursor (suc (cell m cursor)) ∷ []) then)
+    (after-all : (sl : List Slot) (m : List ℕ) (T : Table) → Alike uncounted m₀ m → States w sl T → R T → plans m next ≡ then →
+        Ends plans b P (world (target-of (moved w t) sl) m) next ss steps) where
+  abbrev Mid : List Act → List ℕ → Event → Type 0
+  Mid left m ev = Counting m₀ slot-at left m ev
+
+  -- the next one by its number
+  by-number : (left : List Act) (m : List ℕ) (ev : Event) (h : Mid left m ev) (o : Option ℕ) → slot-at (h .number) ≡ o →
+      plans m ev ≡ kept-or o (puts cursor (suc (cell m cursor)) ∷ []) then
+  by-number left m ev h o e =
+      let c = h .count-is in
+      ap (plans m) (h .hears) ∙ next-is m (h .alike) ∙ (λ i. kept-or (slot-at (c i)) (puts cursor (suc (cell m cursor)) ∷ []) then)
+      ∙ (λ i. kept-or (e i) (puts cursor (suc (cell m cursor)) ∷ []) then)
+
+  first-of : (left : List Act) (m : List ℕ) (ev : Event) (h : Mid left m ev) → act-at left 0 ≡ as-keep (slot-at (h .number))
+  first-of left m ev h = h .so 0 ∙ ap (λ (x : ℕ). as-keep (slot-at x)) (add-zero (h .number))
+
+  tells : (x : Act) (left : List Act) (m : List ℕ) (ev : Event) → Mid (x ∷ left) m ev →
+      (ws : List Write) × (plans m ev ≡ plan ws (told-as x)) × Mid left (written ws m) (heard x)
+  unfolding act-at kept-or
+  tells (take k x) left m ev h = absurd (no-take _ k x (first-of _ m ev h))
+  tells (go n) left m ev h = absurd (no-go _ n (first-of _ m ev h))
+  tells (keep j) left m ev h =
+      let ws : List Write = puts cursor (suc (cell m cursor)) ∷ [] in
+      let i : ℕ = h .number in
+      ( ws
+      , by-number _ m ev h (Some j) (the-slot _ j (first-of _ m ev h))
+      , record
+        { number = suc i; alike = alike-then (h .alike) (alike-written ws m refl); hears = refl
+        ; count-is = cell-put ws m cursor (h .alike .size ∙ sized) refl ∙ mod-eq-of-lt (omega (arith, h .count-is, h .low)) ∙ ap suc (h .count-is)
+        ; low = omega (arith, h .low); so = λ n. h .so (suc n) ∙ ap (λ (x : ℕ). as-keep (slot-at x)) (shifts i n) })
+    where
       shifts : (x y : ℕ) → x + suc y ≡ suc x + y
       shifts x y = omega arith
+
+  all-told : (sl : List Slot) (m : List ℕ) (ev : Event) (T : Table) (a c : ℕ) → Mid [] m ev → States w sl T → Runs-at w a → (a ≡ t) × (c ≡ 0) × R T →
+      Ends plans b P (world (target-of (moved w a) sl) m) ev ss (steps + c)
+  unfolding act-at kept-or
+  all-told sl m ev T a c h s r (at-t, no-step, q) =
+      let k : steps ≡ steps + c = omega (arith, no-step) in
+      subst (λ (x : ℕ). Ends plans b P (world (target-of (moved w a) sl) m) ev ss x) k
+      (subst (λ (x : Event). Ends plans b P (world (target-of (moved w a) sl) m) x ss steps) (sym (h .hears))
+      (subst (λ (x : ℕ). Ends plans b P (world (target-of (moved w x) sl) m) next ss steps) (sym at-t)
+      (after-all sl m T (h .alike) s q (ap (plans m) (sym (h .hears)) ∙ by-number [] m ev h None (no-slot _ (first-of [] m ev h))))))
+
+  -- from number i on, with these acts left
+  pub keeps-all : (left : List Act) (i : ℕ) (T : Table) (sl : List Slot) (m : List ℕ) → i + length left < limit → Runs 0 left T t 0 (λ T' a' c'. (a' ≡ t) × (c' ≡ 0) × R T') →
+      ((j : ℕ) → act-at left j ≡ as-keep (slot-at (i + j))) → Alike uncounted m₀ m → cell m cursor ≡ i → States w sl T →
+      Ends plans (length left + b) P (world (target-of (moved w t) sl) m) next ss steps
+  keeps-all left i T sl m low r so a e s =
+      subst (λ (x : ℕ). Ends plans (length left + b) P (world (target-of (moved w t) sl) m) next ss x) (add-zero steps)
+      (plays plans b P w 0 (runs-first (w .program) (w .ins)) (λ T' a' c'. (a' ≡ t) × (c' ≡ 0) × R T') ss steps Mid
+          (λ left₁ m₁ ev h. h .alike .size ∙ sized) tells all-told left T t 0 sl m next r
+          (record { number = i; alike = a; hears = refl; count-is = e; low = low; so = so }) s running)

@@ -5,6 +5,7 @@ pub mod GapCells
 pub mod Kept
 pub mod Stands
 pub mod Looks
+pub mod Plays
 pub mod KeepsAll
 pub mod Loads
 pub mod Strides

@@ -45,9 +45,9 @@ load-obeyed is plans g left w sl m text h f q =
     ends-within {b = suc (length (start 0 ss []) + 1)} (omega (arith, start-count 0 ss, gaps₁ .count))
     (acts {ws = ws} {a = starts is} (h .lasts .sized) q (
       and-parts _ _ f .0,
-      keeps-all plans 1 (Obeys left w (load is)) w₁ 0 (runs-first is []) m₁ s₁ beginning-slot (λ x. plan (puts phase idle ∷ []) done)
-          (λ T a c. (a ≡ 0) × (c ≡ 0) × Ready T 0 ss) [] 0 next-is all-kept
-          (start 0 ss []) 0 (λ _. none) 0 [] m₁ (omega (arith, start-count 0 ss, gaps₁ .count)) (stand.starts ss (λ _. none) gaps₁)
+      keeps-all plans 1 (Obeys left w (load is)) w₁ 0 (runs-first is []) m₁ s₁ beginning-slot (plan (puts phase idle ∷ []) done)
+          (λ T. Ready T 0 ss) [] 0 next-is all-kept
+          (start 0 ss []) 0 (λ _. none) [] m₁ (omega (arith, start-count 0 ss, gaps₁ .count)) (stand.starts ss (λ _. none) gaps₁)
           (λ j. begins-so ss j gaps₁ ∙ ap (λ (x : ℕ). as-keep (beginning-slot x)) (sym (zero-add j))) alike-same
           (cell-put ws m cursor (h .lasts .sized) refl) (states-none w₁ []),
     ))
@@ -75,16 +75,16 @@ load-obeyed is plans g left w sl m text h f q =
         let p : cell m₂ phase ≡ beginning = a .same phase refl ∙ cell-put ws m phase (h .lasts .sized) refl in
         in-phase plans m₂ next beginning g refl refl p ∙ ap (λ (x : ℕ). on-next x m₂) p
 
-    all-kept : (sl₁ : List Slot) (m₂ : List ℕ) (T : Table) (c : ℕ) → Alike uncounted m₁ m₂ → States w₁ sl₁ T → (zero ≡ zero) × (c ≡ 0) × Ready T 0 ss →
+    all-kept : (sl₁ : List Slot) (m₂ : List ℕ) (T : Table) → Alike uncounted m₁ m₂ → States w₁ sl₁ T → Ready T 0 ss →
         plans m₂ next ≡ plan (puts phase idle ∷ []) done → Ends plans 1 (Obeys left w (load is)) (world (target-of w₁ sl₁) m₂) next [] 0
-    all-kept sl₁ m₂ T c a s r p =
+    all-kept sl₁ m₂ T a s r p =
         let l₁ : Lasts w₁ sl₁ m₁ =
         record {
           sized = s₁;
           time-is = cell-put ws m time (h .lasts .sized) refl;
           fed-is = cell-put ws m fed (h .lasts .sized) refl;
           gaps = gaps₁;
-          kept = inr (T, s, r .2);
+          kept = inr (T, s, r);
         } in
         let m₃ : List ℕ = written (puts phase idle ∷ []) m₂ in
         acts {b = 0} {ws = puts phase idle ∷ []} {a = done} (a .size ∙ s₁) p

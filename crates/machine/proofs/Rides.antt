@@ -103,8 +103,10 @@ module _ (plans : Plans) (agrees : Agrees plans) (P : Ran → Type 0) (b : ℕ) 
       v : Arrived u r m m₁
       v = arrived-so u r m sz (l .gaps) (omega (arith, u-low)) (omega (arith, y .near, low))
 
+      R : Table → Type 0
+      R T = Ready T u (arrive-gaps (u / 4096) ss)
       Q : Table → ℕ → ℕ → Type 0
-      Q T x c = (x ≡ u) × (c ≡ 0) × Ready T u (arrive-gaps (u / 4096) ss)
+      Q T x c = (x ≡ u) × (c ≡ 0) × R T
 
       next-is : (m₂ : List ℕ) → Alike uncounted m₁ m₂ → plans m₂ next ≡ kept-or (arrival-slot (u / 4096) (cell m₂ cursor)) (puts cursor (suc (cell m₂ cursor)) ∷ []) (set-off [] u r)
       next-is m₂ x =
@@ -113,16 +115,16 @@ module _ (plans : Plans) (agrees : Agrees plans) (P : Ran → Type 0) (b : ℕ) 
           ∙ ap (λ (i : ℕ). kept-or (arrival-slot (i / 4096) (cell m₂ cursor)) (puts cursor (suc (cell m₂ cursor)) ∷ []) (set-off [] i (cell m₂ steps-left))) (x .same time refl ∙ v .time-is)
           ∙ ap (λ (i : ℕ). kept-or (arrival-slot (u / 4096) (cell m₂ cursor)) (puts cursor (suc (cell m₂ cursor)) ∷ []) (set-off [] u i)) (x .same steps-left refl ∙ v .left-is)
 
-      all-kept : Gaps (arrive-gaps (u / 4096) ss) → (sl₁ : List Slot) (m₂ : List ℕ) (T : Table) (c : ℕ) → Alike uncounted m₁ m₂ → States w sl₁ T → Q T u c →
+      all-kept : Gaps (arrive-gaps (u / 4096) ss) → (sl₁ : List Slot) (m₂ : List ℕ) (T : Table) → Alike uncounted m₁ m₂ → States w sl₁ T → R T →
           plans m₂ next ≡ set-off [] u r → Ends plans (turns f) P (world (target-of (moved w u) sl₁) m₂) next [] k
-      all-kept g sl₁ m₂ T c x s h p =
+      all-kept g sl₁ m₂ T x s h p =
           let l₁ : Lasts (moved w u) sl₁ m₁ =
           record {
             sized = v .sized;
             time-is = v .time-is;
             fed-is = v .fed-is ∙ l .fed-is;
             gaps = subst Gaps (sym (v .gaps-are)) g;
-            kept = inr (T, s, subst (Ready T u) (sym (v .gaps-are)) (h .2));
+            kept = inr (T, s, subst (Ready T u) (sym (v .gaps-are)) h);
           } in
           let l₂ : Lasts (moved w u) sl₁ m₂ = lasts-alike l₁ (alike-fewer lasting-uncounted x) in
           ih sl₁ m₂ next [] u r k le y (l₂ .sized)
@@ -146,8 +148,8 @@ module _ (plans : Plans) (agrees : Agrees plans) (P : Ran → Type 0) (b : ℕ) 
           (acts {ws = arrival-writes u r} {a = keeps j} sz
           (q ∙ ap (λ (x : Option ℕ). kept-or x (arrival-writes u r) (set-off (puts time u ∷ puts steps-left r ∷ []) u r)) (the-slot (arrival-slot (u / 4096) 0) j (so 0))) (
             lt-ltb j 256 (omega (arith, h .0)),
-            keeps-all plans (turns f) P w u (y .running) m₁ (v .sized) (arrival-slot (u / 4096)) (λ _. set-off [] u r) Q [] k next-is (all-kept g)
-                todo 1 (put T j u) 0 (slots-with w u sl j) m₁ (omega (arith, few)) (h .1)
+            keeps-all plans (turns f) P w u (y .running) m₁ (v .sized) (arrival-slot (u / 4096)) (set-off [] u r) R [] k next-is (all-kept g)
+                todo 1 (put T j u) (slots-with w u sl j) m₁ (omega (arith, few)) (h .1)
                 (λ i. so (suc i) ∙ ap (λ (x : ℕ). as-keep (arrival-slot (u / 4096) x)) (one-more i)) alike-same (v .cursor-is) (states-kept w u sl T j (y .running) s),
           ))
         where
