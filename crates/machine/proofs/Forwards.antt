@@ -15,7 +15,8 @@ use Rattle.machine.specs.Engine.{Write, puts, written, begin, arrived, set-off
 use Rattle.machine.specs.Plans.{Plans, Agrees}
 use Rattle.machine.proofs.Memory.{cell-put, alike-written}
 use Rattle.machine.proofs.Runs.{ends-within, acts}
-use Rattle.machine.proofs.Rides.{At, Makes, Arrival, onward}
+use Rattle.machine.proofs.Reaches.{At, Makes}
+use Rattle.machine.proofs.Rides.{Arrival, onward}
 use Rattle.machine.proofs.Stands.{Comes, Obeyed, lasts-alike, ended}
 
 -- a command that comes to a time, shows it and is done; it came from some time with some steps

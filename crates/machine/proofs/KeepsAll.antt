@@ -12,20 +12,20 @@ use lib.Dec.{eqb}
 use lib.ListN.{length}
 use Rattle.std.specs.declared.option.Option.{Option}
 use Rattle.std.specs.declared.option.Option.the-variants.{Some, None}
-use Rattle.std.proofs.shelf.Tests.{lt-ltb, eqb-true, both-ways, not-from-false}
+use Rattle.std.proofs.shelf.Tests.{eqb-true, both-ways, not-from-false}
 use Rattle.command.specs.Plain.{Plain, moved}
 use Rattle.command.proofs.Picks.{by-test}
 use Rattle.command.proofs.PastStays.{Runs-at}
 use Rattle.command.proofs.Running.{runs-first}
-use Rattle.target.specs.Run.{Event, next, keeps, Slot, Ran, world}
-use Rattle.checkpoints.specs.Slots.{Table, put, Act, take, go, keep, Runs, act-at}
+use Rattle.target.specs.Run.{Event, next, Slot, Ran, world}
+use Rattle.checkpoints.specs.Slots.{Table, Act, take, go, keep, Runs, act-at}
 use Rattle.checkpoints.specs.Arrivals.{as-keep}
 use Rattle.machine.specs.Engine.{Write, puts, written, Plan, plan, kept-or, cell, cells, cursor, limit}
 use Rattle.machine.specs.Plans.{Plans}
 use Rattle.machine.proofs.Memory.{cell-put, Alike, alike-then, alike-written}
-use Rattle.machine.proofs.Runs.{Ends, acts}
+use Rattle.machine.proofs.Runs.{Ends}
 use Rattle.machine.proofs.Plays.{told-as, heard, plays}
-use Rattle.machine.proofs.Kept.{target-of, States, slots-with, states-kept}
+use Rattle.machine.proofs.Kept.{target-of, States}
 use Rattle.machine.proofs.Stands.{lasting}
 
 -- which slot an act by number speaks of
@@ -73,7 +73,7 @@ module _ (plans : Plans) (b : ℕ) (P : Ran → Type 0) (w : Plain) (t : ℕ) (r
     (slot-at : ℕ → Option ℕ) (then : Plan) (R : Table → Type 0) (ss : List (List ℕ)) (steps : ℕ)
     (next-is : (m : List ℕ) → Alike uncounted m₀ m → plans m next ≡ kept-or (slot-at (cell m cursor)) (puts cursor (suc (cell m cursor)) ∷ []) then)
     (after-all : (sl : List Slot) (m : List ℕ) (T : Table) → Alike uncounted m₀ m → States w sl T → R T → plans m next ≡ then →
-        Ends plans b P (world (target-of (moved w t) sl) m) next ss steps) where
+    Ends plans b P (world (target-of (moved w t) sl) m) next ss steps) where
   abbrev Mid : List Act → List ℕ → Event → Type 0
   Mid left m ev = Counting m₀ slot-at left m ev
 
@@ -95,13 +95,18 @@ module _ (plans : Plans) (b : ℕ) (P : Ran → Type 0) (w : Plain) (t : ℕ) (r
   tells (go n) left m ev h = absurd (no-go _ n (first-of _ m ev h))
   tells (keep j) left m ev h =
       let ws : List Write = puts cursor (suc (cell m cursor)) ∷ [] in
-      let i : ℕ = h .number in
-      ( ws
-      , by-number _ m ev h (Some j) (the-slot _ j (first-of _ m ev h))
-      , record
-        { number = suc i; alike = alike-then (h .alike) (alike-written ws m refl); hears = refl
-        ; count-is = cell-put ws m cursor (h .alike .size ∙ sized) refl ∙ mod-eq-of-lt (omega (arith, h .count-is, h .low)) ∙ ap suc (h .count-is)
-        ; low = omega (arith, h .low); so = λ n. h .so (suc n) ∙ ap (λ (x : ℕ). as-keep (slot-at x)) (shifts i n) })
+      let i : ℕ = h .number in (
+        ws,
+        by-number _ m ev h (Some j) (the-slot _ j (first-of _ m ev h)),
+        record {
+          number = suc i;
+          alike = alike-then (h .alike) (alike-written ws m refl);
+          hears = refl;
+          count-is = cell-put ws m cursor (h .alike .size ∙ sized) refl ∙ mod-eq-of-lt (omega (arith, h .count-is, h .low)) ∙ ap suc (h .count-is);
+          low = omega (arith, h .low);
+          so = λ n. h .so (suc n) ∙ ap (λ (x : ℕ). as-keep (slot-at x)) (shifts i n);
+        },
+      )
     where
       shifts : (x y : ℕ) → x + suc y ≡ suc x + y
       shifts x y = omega arith
@@ -123,5 +128,5 @@ module _ (plans : Plans) (b : ℕ) (P : Ran → Type 0) (w : Plain) (t : ℕ) (r
   keeps-all left i T sl m low r so a e s =
       subst (λ (x : ℕ). Ends plans (length left + b) P (world (target-of (moved w t) sl) m) next ss x) (add-zero steps)
       (plays plans b P w 0 (runs-first (w .program) (w .ins)) (λ T' a' c'. (a' ≡ t) × (c' ≡ 0) × R T') ss steps Mid
-          (λ left₁ m₁ ev h. h .alike .size ∙ sized) tells all-told left T t 0 sl m next r
-          (record { number = i; alike = a; hears = refl; count-is = e; low = low; so = so }) s running)
+      (λ left₁ m₁ ev h. h .alike .size ∙ sized) tells all-told left T t 0 sl m next r
+      (record { number = i; alike = a; hears = refl; count-is = e; low = low; so = so }) s running)

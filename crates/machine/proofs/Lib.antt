@@ -10,6 +10,7 @@ pub mod KeepsAll
 pub mod Loads
 pub mod Strides
 pub mod Arrives
+pub mod Reaches
 pub mod Rides
 pub mod Forwards
 pub mod Promises

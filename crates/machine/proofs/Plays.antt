@@ -3,7 +3,6 @@
 use mathlib.Core.Path.{_≡_, refl, sym, ap, subst, _∙_}
 use mathlib.Core.Bool.{false}
 use mathlib.Core.List.{List, [], _∷_}
-use mathlib.Core.Option.{some}
 use Prim.Native.Nat.{ℕ, suc, _+_, _≤_}
 use native.Mathlib.Omega.{arith}
 use native.Mathlib.Nat.{zero-add}
@@ -42,9 +41,9 @@ module _ (plans : Plans) (b : ℕ) (P : Ran → Type 0) (w : Plain) (far : ℕ) 
     (Mem : List Act → List ℕ → Event → Type 0)
     (sized : (left : List Act) (m : List ℕ) (ev : Event) → Mem left m ev → length m ≡ cells)
     (tells : (x : Act) (left : List Act) (m : List ℕ) (ev : Event) → Mem (x ∷ left) m ev →
-        (ws : List Write) × (plans m ev ≡ plan ws (told-as x)) × Mem left (written ws m) (heard x))
+    (ws : List Write) × (plans m ev ≡ plan ws (told-as x)) × Mem left (written ws m) (heard x))
     (after-all : (sl : List Slot) (m : List ℕ) (ev : Event) (T : Table) (a c : ℕ) → Mem [] m ev → States w sl T → Runs-at w a → Q T a c →
-        Ends plans b P (world (target-of (moved w a) sl) m) ev ss (steps + c)) where
+    Ends plans b P (world (target-of (moved w a) sl) m) ev ss (steps + c)) where
   abbrev Goal : List Act → ℕ → ℕ → List Slot → List ℕ → Event → Type 0
   Goal left a c sl m ev = Ends plans (length left + b) P (world (target-of (moved w a) sl) m) ev ss (steps + c)
 
@@ -65,7 +64,7 @@ module _ (plans : Plans) (b : ℕ) (P : Ran → Type 0) (w : Plain) (far : ℕ) 
       let o = s k x has in
       one-more left (take k x) a c sl m ev
       (acts {ws = t .0} {a = takes-up k} (sized (take k x ∷ left) m ev h) (t .1)
-          (at-time w x, [], o .0, plays left T x c sl (written (t .0) m) next q (t .2) s (o .1)))
+      (at-time w x, [], o .0, plays left T x c sl (written (t .0) m) next q (t .2) s (o .1)))
   plays (go n ∷ left) T a c sl m ev (near, q) h s r =
       let t = tells (go n) left m ev h in
       let m₁ : List ℕ = written (t .0) m in
@@ -73,12 +72,13 @@ module _ (plans : Plans) (b : ℕ) (P : Ran → Type 0) (w : Plain) (far : ℕ) 
       let z : steps + (c + n) ≡ steps + c + n = omega arith in
       let rest = plays left T (a + n) (c + n) sl m₁ (came n false 0) q (t .2) s (ran-till (w .program) (w .ins) far (a + n) near ran-far) in
       one-more left (go n) a c sl m ev
-      (acts {ws = t .0} {a = goes n []} (sized (go n ∷ left) m ev h) (t .1)
-          ( refl
-          , subst (λ (x : Came). Ends plans (length left + b) P (world (with-state (target-of (moved w a) sl) (x .state)) m₁) (came (x .by) (x .hit) (x .why)) ss (steps + c + x .by)) (sym e)
-              (subst (λ (k : ℕ). Ends plans (length left + b) P (world (target-of (moved w (a + n)) sl) m₁) (came n false 0) ss k) z rest)))
+      (acts {ws = t .0} {a = goes n []} (sized (go n ∷ left) m ev h) (t .1) (
+        refl,
+        subst (λ (x : Came). Ends plans (length left + b) P (world (with-state (target-of (moved w a) sl) (x .state)) m₁) (came (x .by) (x .hit) (x .why)) ss (steps + c + x .by)) (sym e)
+            (subst (λ (k : ℕ). Ends plans (length left + b) P (world (target-of (moved w (a + n)) sl) m₁) (came n false 0) ss k) z rest),
+      ))
   plays (keep k ∷ left) T a c sl m ev (few, q) h s r =
       let t = tells (keep k) left m ev h in
       one-more left (keep k) a c sl m ev
       (acts {ws = t .0} {a = keeps k} (sized (keep k ∷ left) m ev h) (t .1)
-          (lt-ltb k 256 (omega (arith, few)), plays left (put T k a) a c (slots-with w a sl k) (written (t .0) m) next q (t .2) (states-kept w a sl T k r s) r))
+      (lt-ltb k 256 (omega (arith, few)), plays left (put T k a) a c (slots-with w a sl k) (written (t .0) m) next q (t .2) (states-kept w a sl T k r s) r))

@@ -1,63 +1,31 @@
 -- A ride: strides up to the next multiple of the spacing, one after another, with states kept at each that is reached. What is done on arrival is left
 -- open, so that every command that goes on can use it. Assumes nothing.
 use mathlib.Core.Path.{_≡_, refl, sym, ap, subst, _∙_}
-use mathlib.Core.Bool.{Bool, true, _&&_, not}
+use mathlib.Core.Bool.{Bool, _&&_, not}
 use mathlib.Core.List.{List, [], _∷_}
-use mathlib.Core.Logic.{_⊎_, inl, inr, ⊎-elim}
+use mathlib.Core.Logic.{_⊎_, ⊎-elim}
 use Prim.Native.Nat.{ℕ, zero, suc, _+_, _*_, _-_, _/_, _%_, _≤_, _<_}
 use native.Mathlib.Omega.{arith}
 use native.Mathlib.Nat.{mod-eq-of-lt}
 use lib.Dec.{eqb}
 use lib.ListN.{length}
-use Rattle.std.specs.declared.option.Option.{Option}
-use Rattle.std.specs.declared.option.Option.the-variants.{Some, None}
-use Rattle.std.proofs.shelf.Tests.{and-parts, and-cases, eqb-true, eqb-false, not-true, not-false, lt-ltb}
+use Rattle.std.proofs.shelf.Tests.{and-parts, and-cases, eqb-true, eqb-false, not-true, not-false}
 use Rattle.command.specs.Machine.{pick, State}
 use Rattle.command.specs.Plain.{Plain, moved, at-time, on-till}
 use Rattle.command.proofs.Picks.{by-test}
 use Rattle.command.proofs.PastStays.{Runs-at}
 use Rattle.command.proofs.Times.{on-till-runs}
-use Rattle.target.specs.Run.{Event, came, next, goes, keeps, Slot, Ran, Came, world, with-state, going}
+use Rattle.target.specs.Run.{Event, came, next, goes, Slot, Ran, Came, world, with-state, going}
 use Rattle.checkpoints.specs.Numbers.{most-time}
-use Rattle.checkpoints.specs.Slots.{Table, put, Act, take, go, keep, Runs, act-at}
-use Rattle.checkpoints.specs.Policy.{arrive, arrive-gaps}
-use Rattle.checkpoints.specs.Ready.{Ready}
-use Rattle.checkpoints.specs.Arrivals.{as-keep, arrival-slot}
-use Rattle.checkpoints.specs.Statements.{Gaps, Arrives-so}
-use Rattle.checkpoints.proofs.Arriving.{arrives-so}
-use Rattle.machine.specs.Engine.{Write, puts, written, plan, planned, on-next, on-came, went, come-to, kept-or, arrived, set-off, stride, spacing, cell, cells, limit, phase, time, fed, steps-left, cursor, going-on, keeping}
+use Rattle.machine.specs.Engine.{Write, puts, written, plan, planned, on-came, went, come-to, arrived, set-off, stride, spacing, cell, cells, limit, phase, time, steps-left, going-on}
 use Rattle.machine.specs.Plans.{Plans, Agrees}
-use Rattle.machine.proofs.Memory.{cell-put, Alike, alike-same, alike-written, alike-fewer}
+use Rattle.machine.proofs.Memory.{cell-put, alike-written}
 use Rattle.machine.proofs.Runs.{Ends, ends-within, acts}
 use Rattle.machine.proofs.GapCells.{gaps-of}
-use Rattle.machine.proofs.Kept.{target-of, Kept, States, slots-with, states-kept, empty-stays, kept-later}
-use Rattle.machine.proofs.KeepsAll.{uncounted, lasting-uncounted, no-slot, the-slot, no-take, no-go, keeps-all}
-use Rattle.machine.proofs.Stands.{untimed, gap-untimed, gaps-alike, Lasts, lasts-alike, in-phase}
+use Rattle.machine.proofs.Kept.{target-of, Kept, kept-later}
+use Rattle.machine.proofs.Stands.{in-phase}
+use Rattle.machine.proofs.Reaches.{At, Makes, lasts-moved, reached}
 use Rattle.machine.proofs.Strides.{left-after, Strode, strode, stride-long}
-use Rattle.machine.proofs.Arrives.{arrival-writes, Arrived, arrived-so, few-arrive, arrives-at, first-arrival}
-
--- memory in the midst of a command: a phase, a time, and steps left
-pub record At (w : Plain) (sl : List Slot) (p t n : ℕ) (m : List ℕ) : Type 0 where
-  pub lasts : Lasts (moved w t) sl m
-  pub phase-is : cell m phase ≡ p
-  pub left-is : cell m steps-left ≡ n
-
--- some writes make it so, whatever the phase
-abbrev pub Makes : Plain → List Slot → ℕ → ℕ → List Write → List ℕ → Type 0
-Makes w sl t n ws m = (p : ℕ) → p % limit ≡ p → At w sl p t n (written (puts phase p ∷ ws) m)
-
--- it moved to a time for which the slots are ready
-lasts-moved : (w : Plain) {sl : List Slot} {m m₁ : List ℕ} (t u : ℕ) → Lasts (moved w t) sl m → Alike untimed m m₁ → cell m₁ time ≡ u → Kept (moved w u) sl (gaps-of m) →
-    Lasts (moved w u) sl m₁
-lasts-moved w {sl} t u h a e k =
-    let g = sym (gaps-alike gap-untimed a) in
-    record {
-      sized = a .size ∙ h .sized;
-      time-is = e;
-      fed-is = a .same fed refl ∙ h .fed-is;
-      gaps = subst Gaps g (h .gaps);
-      kept = subst (λ (s : List ℕ). Kept (moved w u) sl s) g k;
-    }
 
 module _ (plans : Plans) (agrees : Agrees plans) (P : Ran → Type 0) (b : ℕ) (w : Plain) (o from-time from-steps top : ℕ) (low : top < most-time) where
   -- what holds at a time on the way, with so many steps left, after so many
@@ -82,86 +50,6 @@ module _ (plans : Plans) (agrees : Agrees plans) (P : Ran → Type 0) (b : ℕ) 
       (sl : List Slot) (m : List ℕ) (ev : Event) (ws : List Write) (t n k : ℕ) → n ≤ f → Way t n k → length m ≡ cells → Makes w sl t n ws m → on-till w [] t n ≡ o →
       plans m ev ≡ set-off ws t n → Ends plans (turns f) P (world (target-of (moved w t) sl) m) ev [] k
 
-  -- at a multiple of the spacing that it has reached, with r steps left
-  reached : (f : ℕ) → Onward f → (sl : List Slot) (m : List ℕ) (ev : Event) (t u a r k : ℕ) → Lasts (moved w t) sl m → r ≤ f → Way u r k → on-till w [] t a ≡ u → t < u →
-      u ≡ suc (t / 4096) * 4096 → on-till w [] u r ≡ o → plans m ev ≡ come-to true u r → Ends plans (31 + turns f) P (world (target-of (moved w u) sl) m) ev [] k
-  unfolding come-to kept-or Runs act-at Arrives-so planned on-next
-  reached f ih sl m ev t u a r k l le y came-there past e rest q = by-kept (l .kept)
-    where
-      sz : length m ≡ cells
-      sz = l .sized
-
-      ss : List ℕ
-      ss = gaps-of m
-
-      m₁ : List ℕ
-      m₁ = written (arrival-writes u r) m
-
-      u-low : u < most-time
-      u-low = omega (arith, y .near, low)
-
-      v : Arrived u r m m₁
-      v = arrived-so u r m sz (l .gaps) (omega (arith, u-low)) (omega (arith, y .near, low))
-
-      R : Table → Type 0
-      R T = Ready T u (arrive-gaps (u / 4096) ss)
-      Q : Table → ℕ → ℕ → Type 0
-      Q T x c = (x ≡ u) × (c ≡ 0) × R T
-
-      next-is : (m₂ : List ℕ) → Alike uncounted m₁ m₂ → plans m₂ next ≡ kept-or (arrival-slot (u / 4096) (cell m₂ cursor)) (puts cursor (suc (cell m₂ cursor)) ∷ []) (set-off [] u r)
-      next-is m₂ x =
-          let p : cell m₂ phase ≡ keeping = x .same phase refl ∙ v .phase-is in
-          in-phase plans m₂ next keeping agrees refl refl p ∙ ap (λ (i : ℕ). on-next i m₂) p
-          ∙ ap (λ (i : ℕ). kept-or (arrival-slot (i / 4096) (cell m₂ cursor)) (puts cursor (suc (cell m₂ cursor)) ∷ []) (set-off [] i (cell m₂ steps-left))) (x .same time refl ∙ v .time-is)
-          ∙ ap (λ (i : ℕ). kept-or (arrival-slot (u / 4096) (cell m₂ cursor)) (puts cursor (suc (cell m₂ cursor)) ∷ []) (set-off [] u i)) (x .same steps-left refl ∙ v .left-is)
-
-      all-kept : Gaps (arrive-gaps (u / 4096) ss) → (sl₁ : List Slot) (m₂ : List ℕ) (T : Table) → Alike uncounted m₁ m₂ → States w sl₁ T → R T →
-          plans m₂ next ≡ set-off [] u r → Ends plans (turns f) P (world (target-of (moved w u) sl₁) m₂) next [] k
-      all-kept g sl₁ m₂ T x s h p =
-          let l₁ : Lasts (moved w u) sl₁ m₁ =
-          record {
-            sized = v .sized;
-            time-is = v .time-is;
-            fed-is = v .fed-is ∙ l .fed-is;
-            gaps = subst Gaps (sym (v .gaps-are)) g;
-            kept = inr (T, s, subst (Ready T u) (sym (v .gaps-are)) h);
-          } in
-          let l₂ : Lasts (moved w u) sl₁ m₂ = lasts-alike l₁ (alike-fewer lasting-uncounted x) in
-          ih sl₁ m₂ next [] u r k le y (l₂ .sized)
-          (λ i d. record {
-            lasts = lasts-alike l₂ (alike-written (puts phase i ∷ []) m₂ refl);
-            phase-is = cell-put (puts phase i ∷ []) m₂ phase (l₂ .sized) refl ∙ d;
-            left-is = cell-put (puts phase i ∷ []) m₂ steps-left (l₂ .sized) refl ∙ x .same steps-left refl ∙ v .left-is;
-          })
-          rest p
-
-      from-first : Gaps (arrive-gaps (u / 4096) ss) → (T : Table) → States w sl T → (todo : List Act) → Runs 0 todo T u 0 Q → ((j : ℕ) → act-at todo j ≡ as-keep (arrival-slot (u / 4096) j)) →
-          length todo ≤ 31 → Ends plans (31 + turns f) P (world (target-of (moved w u) sl) m) ev [] k
-      from-first g T s [] h so few =
-          let z : Some _ ≡ None = sym (first-arrival (u / 4096)) ∙ no-slot (arrival-slot (u / 4096) 0) (so 0) in
-          let bad : zero ≡ suc zero = cc in
-          absurd (omega (arith, bad))
-      from-first g T s (take j x ∷ todo) h so few = absurd (no-take (arrival-slot (u / 4096) 0) j x (so 0))
-      from-first g T s (go n ∷ todo) h so few = absurd (no-go (arrival-slot (u / 4096) 0) n (so 0))
-      from-first g T s (keep j ∷ todo) h so few =
-          ends-within {b = suc (length todo + turns f)} (omega (arith, few))
-          (acts {ws = arrival-writes u r} {a = keeps j} sz
-          (q ∙ ap (λ (x : Option ℕ). kept-or x (arrival-writes u r) (set-off (puts time u ∷ puts steps-left r ∷ []) u r)) (the-slot (arrival-slot (u / 4096) 0) j (so 0))) (
-            lt-ltb j 256 (omega (arith, h .0)),
-            keeps-all plans (turns f) P w u (y .running) m₁ (v .sized) (arrival-slot (u / 4096)) (set-off [] u r) R [] k next-is (all-kept g)
-                todo 1 (put T j u) (slots-with w u sl j) m₁ (omega (arith, few)) (h .1)
-                (λ i. so (suc i) ∙ ap (λ (x : ℕ). as-keep (arrival-slot (u / 4096) x)) (one-more i)) alike-same (v .cursor-is) (states-kept w u sl T j (y .running) s),
-          ))
-        where
-          one-more : (i : ℕ) → suc i ≡ 1 + i
-          one-more i = omega arith
-
-      by-kept : Kept (moved w t) sl ss → Ends plans (31 + turns f) P (world (target-of (moved w u) sl) m) ev [] k
-      by-kept (inl h) = let z : u ≡ 0 = sym came-there ∙ empty-stays w t a (h .0) (h .1) in absurd (omega (arith, z, past))
-      by-kept (inr (T, s, h)) =
-          let x = arrives-at T t u ss (l .gaps) u-low e h in
-          from-first (x .0) T s (arrive 0 (u / 4096) ss []) (x .1) (λ j. arrives-so (u / 4096) j ss (l .gaps) (omega (arith, u-low))) (few-arrive (u / 4096) ss (l .gaps))
-
   -- after a stride, by what is told of it
   landed : (f : ℕ) → Onward f → (sl : List Slot) (m : List ℕ) (t n k a : ℕ) (c : Came) → At w sl going-on t n m → n ≤ suc f → Way t n k → 1 ≤ a → a ≤ n → a ≤ spacing - t % spacing →
       on-till w [] t n ≡ o → Strode w t a n c →
@@ -172,8 +60,9 @@ module _ (plans : Plans) (agrees : Agrees plans) (P : Ran → Type 0) (b : ℕ) 
       (λ e.
       let z : u % spacing ≡ 0 = eqb-true _ _ (and-parts _ _ e .0) in
       let by-some : c .by ≡ 0 → ⊥ = eqb-false (c .by) 0 (not-true (eqb (c .by) 0) (and-parts (eqb (u % spacing) 0) _ e .1)) in
-      reached f ih sl m ev t u a r (k + c .by) (at .lasts) few y₁ refl (omega (arith, s .by, by-some)) (omega (arith, s .by, s .far, no-pass, z, by-some)) rest
-      (q ∙ ap (λ (x : Bool). come-to x u r) e))
+      reached plans agrees P (turns f) w sl m ev t u a r [] (k + c .by) (at .lasts) (y₁ .running) (omega (arith, y₁ .near, low)) (omega (arith, y₁ .near, low)) refl
+      (omega (arith, s .by, by-some)) (omega (arith, s .by, s .far, no-pass, z, by-some)) (q ∙ ap (λ (x : Bool). come-to x u r) e)
+      (λ sl₁ m₂ sz₂ makes₂ q₂. ih sl₁ m₂ next [] u r (k + c .by) few y₁ sz₂ makes₂ rest q₂))
       (λ e.
       let same : u / spacing ≡ t / spacing =
       ⊎-elim (λ x. let z : u % spacing ≡ 0 → ⊥ = eqb-false _ _ x in omega (arith, s .by, s .far, no-pass, z))
