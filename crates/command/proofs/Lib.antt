@@ -15,3 +15,11 @@ pub mod StopsAre
 pub mod Exact
 pub mod PastStays
 pub mod Shown
+pub mod Readers
+pub mod Digits
+pub mod Spellings
+pub mod Texts
+pub mod Many
+pub mod Whole
+pub mod Writes
+mod ReaderExamples

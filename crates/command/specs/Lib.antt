@@ -2,5 +2,9 @@ pub mod Machine
 pub mod Plain
 pub mod Codes
 pub mod Breaks
+pub mod Reader
+pub mod Taken
+pub mod Told
+pub mod Written
 pub mod Statements
 pub mod Exact

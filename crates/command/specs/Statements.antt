@@ -3,12 +3,21 @@
 use mathlib.Core.Path.{_≡_}
 use mathlib.Core.Bool.{true, false}
 use mathlib.Core.List.{List, [], _∷_, _++_}
-use mathlib.Core.Logic.{_⊎_}
+use mathlib.Core.Logic.{_⊎_, _↔_}
 use Prim.Native.Nat.{ℕ, _+_, _≤_, _<_}
 use lib.Dec.{eqb, ltb}
 use lib.ListN.{length}
 use Rattle.command.specs.Machine.{every, Instr, Word, State, state-at, word-at, put-word, is-running, reckoned, whole, goes-on}
-use Rattle.command.specs.Plain.{a-word, an-instr, Plain, Break, holds-at, on-till, back-till, changes-at, last-change}
+use Rattle.command.specs.Plain.{a-word, an-instr, Command, spelled, fits, Plain, Break, holds-at, on-till, back-till, changes-at, last-change}
+use Rattle.command.specs.Reader.{some, read-command, Says}
+
+-- No two commands are spelled alike.
+unfoldable pub Spelled-once : Type 0
+Spelled-once = (a c : Command) → fits a ≡ true → fits c ≡ true → spelled a ≡ spelled c → a ≡ c
+
+-- A text is read as a command if and only if it spells that command, and the command fits. So every other text is read as none.
+unfoldable pub Read-exactly : Type 0
+Read-exactly = (text : List ℕ) (c : Command) → (read-command text ≡ some c) ↔ Says text c
 
 -- More to come in changes nothing of what was.
 unfoldable pub Past-same : Type 0

@@ -1,7 +1,21 @@
 // What is proved of the processor and of the plain debugger. Each function does nothing; its contract is a statement, so that the check fails
 // without its proof.
-ghost use Rattle.command.specs.Statements.{Past-same, Words-right, Small-numbers, Small-states, Outs-grow, First-stop, Last-stop, Changer-last};
+ghost use Rattle.command.specs.Statements.{Spelled-once, Read-exactly, Past-same, Words-right, Small-numbers, Small-states, Outs-grow, First-stop, Last-stop, Changer-last};
 ghost use Rattle.command.specs.Exact.{First-stop-exact, Last-stop-exact, Changer-exact};
+
+// No two commands are spelled alike.
+pub fn spelled_once() -> u8
+    ensures { λ _. ⌜ Spelled-once ⌝ }
+{
+    0
+}
+
+// A text is read as a command if and only if it spells that command, and the command fits.
+pub fn read_exactly() -> u8
+    ensures { λ _. ⌜ Read-exactly ⌝ }
+{
+    0
+}
 
 // Input that comes later leaves the states as they were, as far as the processor ran without it.
 pub fn past_same() -> u8

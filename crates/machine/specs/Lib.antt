@@ -1,0 +1,3 @@
+pub mod Promise
+pub mod Engine
+pub mod Plans
