@@ -9,10 +9,7 @@ use native.Mathlib.Omega.{arith}
 use Rattle.std.proofs.shelf.Tests.{lt-ltb, le-ltb, ltb-true}
 use Rattle.std.proofs.shelf.Parts.{first-rest}
 use Rattle.command.proofs.Readers.{Exact, Right, bind-at, exact-byte}
-use Rattle.std.specs.declared.option.Option.{Option}
-use Rattle.std.specs.declared.option.Option.the-variants.{Some, None}
 use Rattle.command.specs.Machine.{pick}
-use Rattle.command.specs.Taken.{Takes, Within}
 use Rattle.command.specs.Reader.{Got, nothing, got, Reader, bind, only, byte, bytes, first, below}
 
 -- the rest of a text, as the code has it
@@ -67,10 +64,3 @@ bytes-more k n t e = bind-at _ e
 pub bytes-done : (k n : ℕ) (t : List ℕ) → k ≡ 0 → bytes k n t ≡ got n t
 unfolding bytes
 bytes-done k n t e = ap (λ x. bytes x n t) e
-
--- the exit of a `?`
-pub takes-none : {A B : Type 0} (m : B → A) {g : Got A} (r : Option B) (u : List ℕ) → r ≡ None → g ≡ nothing → Takes m g r u
-takes-none m {g} r u e h = subst (λ x. Takes m g x u) (sym e) h
-
-pub within-none : (limit : ℕ) (r : Option ℕ) → r ≡ None → Within limit r
-within-none limit r e = subst (Within limit) (sym e) tt
