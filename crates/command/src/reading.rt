@@ -35,19 +35,90 @@ impl Cursor<'_> {
         self.number()
     }
 
+    fn forward(&mut self) -> Option<Order>
+        ensures { λ r. ⌜ Takes meant (one-of order-ways 3 (left (now (self .entry)))) r (left (now (self .exit))) ⌝ }
+    {
+        let Some(steps) = self.steps() else {
+            return None;
+        };
+        Some(Order::Forward(steps))
+    }
+
+    fn back(&mut self) -> Option<Order>
+        ensures { λ r. ⌜ Takes meant (one-of order-ways 4 (left (now (self .entry)))) r (left (now (self .exit))) ⌝ }
+    {
+        let Some(steps) = self.steps() else {
+            return None;
+        };
+        Some(Order::Back(steps))
+    }
+
+    fn run(&mut self) -> Option<Order>
+        ensures { λ r. ⌜ Takes meant (one-of order-ways 5 (left (now (self .entry)))) r (left (now (self .exit))) ⌝ }
+    {
+        let Some(steps) = self.steps() else {
+            return None;
+        };
+        Some(Order::Run(steps))
+    }
+
+    fn rerun(&mut self) -> Option<Order>
+        ensures { λ r. ⌜ Takes meant (one-of order-ways 6 (left (now (self .entry)))) r (left (now (self .exit))) ⌝ }
+    {
+        let Some(steps) = self.steps() else {
+            return None;
+        };
+        Some(Order::Rerun(steps))
+    }
+
+    fn changer(&mut self) -> Option<Order>
+        ensures { λ r. ⌜ Takes meant (one-of order-ways 7 (left (now (self .entry)))) r (left (now (self .exit))) ⌝ }
+    {
+        let Some(word) = self.below(PLACES) else {
+            return None;
+        };
+        Some(Order::Changer(word))
+    }
+
+    fn add_break(&mut self) -> Option<Order>
+        ensures { λ r. ⌜ Takes meant (one-of order-ways 8 (left (now (self .entry)))) r (left (now (self .exit))) ⌝ }
+    {
+        let Some(stop) = self.stop() else {
+            return None;
+        };
+        Some(Order::Break(stop))
+    }
+
+    fn drop_break(&mut self) -> Option<Order>
+        ensures { λ r. ⌜ Takes meant (one-of order-ways 9 (left (now (self .entry)))) r (left (now (self .exit))) ⌝ }
+    {
+        let Some(number) = self.any_number() else {
+            return None;
+        };
+        Some(Order::Drop(number))
+    }
+
     fn words(&mut self) -> Option<Order>
         ensures { λ r. ⌜ Takes meant (one-of order-ways 12 (left (now (self .entry)))) r (left (now (self .exit))) ⌝ }
     {
-        let from = self.below(PLACES)?;
-        let count = self.up_to(MOST)?;
+        let Some(from) = self.below(PLACES) else {
+            return None;
+        };
+        let Some(count) = self.up_to(MOST) else {
+            return None;
+        };
         Some(Order::Words { from, count })
     }
 
     fn outs(&mut self) -> Option<Order>
         ensures { λ r. ⌜ Takes meant (one-of order-ways 13 (left (now (self .entry)))) r (left (now (self .exit))) ⌝ }
     {
-        let from = self.any_number()?;
-        let count = self.up_to(MOST)?;
+        let Some(from) = self.any_number() else {
+            return None;
+        };
+        let Some(count) = self.up_to(MOST) else {
+            return None;
+        };
         Some(Order::Outs { from, count })
     }
 
@@ -56,13 +127,13 @@ impl Cursor<'_> {
         ensures { λ r. ⌜ Takes meant (one-of order-ways kind (left (now (self .entry)))) r (left (now (self .exit))) ⌝ }
     {
         match kind {
-            3 => Some(Order::Forward(self.steps()?)),
-            4 => Some(Order::Back(self.steps()?)),
-            5 => Some(Order::Run(self.steps()?)),
-            6 => Some(Order::Rerun(self.steps()?)),
-            7 => Some(Order::Changer(self.below(PLACES)?)),
-            8 => Some(Order::Break(self.stop()?)),
-            9 => Some(Order::Drop(self.any_number()?)),
+            3 => self.forward(),
+            4 => self.back(),
+            5 => self.run(),
+            6 => self.rerun(),
+            7 => self.changer(),
+            8 => self.add_break(),
+            9 => self.drop_break(),
             10 => Some(Order::Where),
             11 => Some(Order::Registers),
             12 => self.words(),
@@ -75,7 +146,9 @@ impl Cursor<'_> {
         ensures { λ r. ⌜ Takes (λ _. listed (so-many instr count (left (now (self .entry))))) (so-many instr count (left (now (self .entry)))) r (left (now (self .exit))) ⌝ }
     {
         for _i in 0..count {
-            let _instr = self.instr()?;
+            let Some(_instr) = self.instr() else {
+                return None;
+            };
         }
         Some(())
     }
@@ -85,7 +158,9 @@ impl Cursor<'_> {
         ensures { λ r. ⌜ Takes (λ _. listed (so-many word count (left (now (self .entry))))) (so-many word count (left (now (self .entry)))) r (left (now (self .exit))) ⌝ }
     {
         for _i in 0..count {
-            let _word = self.word()?;
+            let Some(_word) = self.word() else {
+                return None;
+            };
         }
         Some(())
     }
@@ -94,8 +169,12 @@ impl Cursor<'_> {
         ensures takes { λ r. ⌜ Takes (told (left (now (self .entry)))) (one-of command-ways 1 (left (now (self .entry)))) r (left (now (self .exit))) ⌝ }
         ensures counted { λ r. ⌜ Counted (left (now (self .entry))) r ⌝ }
     {
-        let count = self.up_to(MOST)?;
-        self.skip_instrs(count)?;
+        let Some(count) = self.up_to(MOST) else {
+            return None;
+        };
+        let Some(()) = self.skip_instrs(count) else {
+            return None;
+        };
         Some(Command::Load(count))
     }
 
@@ -103,8 +182,12 @@ impl Cursor<'_> {
         ensures takes { λ r. ⌜ Takes (told (left (now (self .entry)))) (one-of command-ways 2 (left (now (self .entry)))) r (left (now (self .exit))) ⌝ }
         ensures counted { λ r. ⌜ Counted (left (now (self .entry))) r ⌝ }
     {
-        let count = self.up_to(MOST)?;
-        self.skip_words(count)?;
+        let Some(count) = self.up_to(MOST) else {
+            return None;
+        };
+        let Some(()) = self.skip_words(count) else {
+            return None;
+        };
         Some(Command::Give(count))
     }
 
@@ -114,10 +197,14 @@ impl Cursor<'_> {
         ensures counted { λ r. ⌜ Counted (left (now (self .entry))) r ⌝ }
     {
         match kind {
-            1 => self.load(),
-            2 => self.give(),
-            _ => Some(Command::Order(self.order_of(kind)?)),
+            1 => return self.load(),
+            2 => return self.give(),
+            _ => {}
         }
+        let Some(order) = self.order_of(kind) else {
+            return None;
+        };
+        Some(Command::Order(order))
     }
 }
 

@@ -22,14 +22,13 @@ mod instruction;
 mod parts;
 mod stops;
 
-pub use instruction::put_instr;
-pub use parts::eight_bytes;
-
 // Two numbers behind a byte.
 fn put_two(out: &mut Vec<u64>, kind: u64, first: u64, second: u64) -> Result<(), AllocError>
     ensures { λ r. ⌜ Puts (vec-items (now (out .entry))) (kind ∷ eight first ++ eight second) r (vec-items (now (out .exit))) ⌝ }
 {
-    put_with(out, &[kind], first)?;
+    let Ok(()) = put_with(out, &[kind], first) else {
+        return Err(AllocError);
+    };
     put_number(out, second)
 }
 
@@ -37,7 +36,9 @@ fn put_words(out: &mut Vec<u64>, numbers: &[u32]) -> Result<(), AllocError>
     ensures { λ r. ⌜ Puts (vec-items (now (out .entry))) (flat eight (now (numbers .entry))) r (vec-items (now (out .exit))) ⌝ }
 {
     for number in numbers {
-        put_number(out, *number as u64)?;
+        let Ok(()) = put_number(out, *number as u64) else {
+            return Err(AllocError);
+        };
     }
     Ok(())
 }
@@ -52,7 +53,9 @@ fn put_order(out: &mut Vec<u64>, order: Order) -> Result<(), AllocError>
         Order::Rerun(steps) => put_with(out, &[6], steps),
         Order::Changer(word) => put_with(out, &[7], word),
         Order::Break(stop) => {
-            put(out, &[8])?;
+            let Ok(()) = put(out, &[8]) else {
+                return Err(AllocError);
+            };
             put_break(out, stop)
         }
         Order::Drop(number) => put_with(out, &[9], number),
@@ -67,7 +70,9 @@ pub fn write(heap: Global, order: Order) -> Result<Vec<u64>, AllocError>
     ensures { λ r. ⌜ made r (λ text. vec-items text ≡ spelled (meant order)) ⌝ }
 {
     let mut text = Vec::new(heap);
-    put_order(&mut text, order)?;
+    let Ok(()) = put_order(&mut text, order) else {
+        return Err(AllocError);
+    };
     Ok(text)
 }
 
@@ -75,8 +80,12 @@ pub fn write_load(heap: Global, program: &[Instr]) -> Result<Vec<u64>, AllocErro
     ensures { λ r. ⌜ made r (λ text. vec-items text ≡ spelled (load (codes (now (program .entry))))) ⌝ }
 {
     let mut text = Vec::new(heap);
-    put_with(&mut text, &[1], program.len() as u64)?;
-    put_instrs(&mut text, program)?;
+    let Ok(()) = put_with(&mut text, &[1], program.len() as u64) else {
+        return Err(AllocError);
+    };
+    let Ok(()) = put_instrs(&mut text, program) else {
+        return Err(AllocError);
+    };
     Ok(text)
 }
 
@@ -84,7 +93,11 @@ pub fn write_give(heap: Global, numbers: &[u32]) -> Result<Vec<u64>, AllocError>
     ensures { λ r. ⌜ made r (λ text. vec-items text ≡ spelled (give (now (numbers .entry)))) ⌝ }
 {
     let mut text = Vec::new(heap);
-    put_with(&mut text, &[2], numbers.len() as u64)?;
-    put_words(&mut text, numbers)?;
+    let Ok(()) = put_with(&mut text, &[2], numbers.len() as u64) else {
+        return Err(AllocError);
+    };
+    let Ok(()) = put_words(&mut text, numbers) else {
+        return Err(AllocError);
+    };
     Ok(text)
 }

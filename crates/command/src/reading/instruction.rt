@@ -10,81 +10,123 @@ impl Cursor<'_> {
     fn load_instr(&mut self) -> Option<Instr>
         ensures { λ r. ⌜ Takes code (one-of instr-ways 0 (left (now (self .entry)))) r (left (now (self .exit))) ⌝ }
     {
-        let to = self.register()?;
-        let number = self.word()?;
+        let Some(to) = self.register() else {
+            return None;
+        };
+        let Some(number) = self.word() else {
+            return None;
+        };
         Some(Instr::Load(to, number))
     }
 
     fn copy_instr(&mut self) -> Option<Instr>
         ensures { λ r. ⌜ Takes code (one-of instr-ways 1 (left (now (self .entry)))) r (left (now (self .exit))) ⌝ }
     {
-        let to = self.register()?;
-        let from = self.register()?;
+        let Some(to) = self.register() else {
+            return None;
+        };
+        let Some(from) = self.register() else {
+            return None;
+        };
         Some(Instr::Copied(to, from))
     }
 
     fn reckon_instr(&mut self) -> Option<Instr>
         ensures { λ r. ⌜ Takes code (one-of instr-ways 2 (left (now (self .entry)))) r (left (now (self .exit))) ⌝ }
     {
-        let op = self.op()?;
-        let to = self.register()?;
-        let by = self.register()?;
+        let Some(op) = self.op() else {
+            return None;
+        };
+        let Some(to) = self.register() else {
+            return None;
+        };
+        let Some(by) = self.register() else {
+            return None;
+        };
         Some(Instr::Reckon(op, to, by))
     }
 
     fn read_instr(&mut self) -> Option<Instr>
         ensures { λ r. ⌜ Takes code (one-of instr-ways 3 (left (now (self .entry)))) r (left (now (self .exit))) ⌝ }
     {
-        let to = self.register()?;
-        let base = self.register()?;
-        let offset = self.place()?;
+        let Some(to) = self.register() else {
+            return None;
+        };
+        let Some(base) = self.register() else {
+            return None;
+        };
+        let Some(offset) = self.place() else {
+            return None;
+        };
         Some(Instr::Read(to, base, offset))
     }
 
     fn write_instr(&mut self) -> Option<Instr>
         ensures { λ r. ⌜ Takes code (one-of instr-ways 4 (left (now (self .entry)))) r (left (now (self .exit))) ⌝ }
     {
-        let from = self.register()?;
-        let base = self.register()?;
-        let offset = self.place()?;
+        let Some(from) = self.register() else {
+            return None;
+        };
+        let Some(base) = self.register() else {
+            return None;
+        };
+        let Some(offset) = self.place() else {
+            return None;
+        };
         Some(Instr::Write(from, base, offset))
     }
 
     fn jump_instr(&mut self) -> Option<Instr>
         ensures { λ r. ⌜ Takes code (one-of instr-ways 5 (left (now (self .entry)))) r (left (now (self .exit))) ⌝ }
     {
-        let place = self.place()?;
+        let Some(place) = self.place() else {
+            return None;
+        };
         Some(Instr::Jump(place))
     }
 
     fn jump_if_instr(&mut self) -> Option<Instr>
         ensures { λ r. ⌜ Takes code (one-of instr-ways 6 (left (now (self .entry)))) r (left (now (self .exit))) ⌝ }
     {
-        let comparison = self.comparison()?;
-        let first = self.register()?;
-        let second = self.register()?;
-        let place = self.place()?;
+        let Some(comparison) = self.comparison() else {
+            return None;
+        };
+        let Some(first) = self.register() else {
+            return None;
+        };
+        let Some(second) = self.register() else {
+            return None;
+        };
+        let Some(place) = self.place() else {
+            return None;
+        };
         Some(Instr::JumpIf(comparison, first, second, place))
     }
 
     fn call_instr(&mut self) -> Option<Instr>
         ensures { λ r. ⌜ Takes code (one-of instr-ways 7 (left (now (self .entry)))) r (left (now (self .exit))) ⌝ }
     {
-        let place = self.place()?;
+        let Some(place) = self.place() else {
+            return None;
+        };
         Some(Instr::Call(place))
     }
 
     fn in_instr(&mut self) -> Option<Instr>
         ensures { λ r. ⌜ Takes code (one-of instr-ways 9 (left (now (self .entry)))) r (left (now (self .exit))) ⌝ }
     {
-        let to = self.register()?;
+        let Some(to) = self.register() else {
+            return None;
+        };
         Some(Instr::In(to))
     }
 
     fn out_instr(&mut self) -> Option<Instr>
         ensures { λ r. ⌜ Takes code (one-of instr-ways 10 (left (now (self .entry)))) r (left (now (self .exit))) ⌝ }
     {
-        let from = self.register()?;
+        let Some(from) = self.register() else {
+            return None;
+        };
         Some(Instr::Out(from))
     }
 
@@ -112,7 +154,9 @@ impl Cursor<'_> {
     pub fn instr(&mut self) -> Option<Instr>
         ensures { λ r. ⌜ Takes code (instr (left (now (self .entry)))) r (left (now (self .exit))) ⌝ }
     {
-        let kind = self.first()?;
+        let Some(kind) = self.first() else {
+            return None;
+        };
         self.instr_of(kind)
     }
 }

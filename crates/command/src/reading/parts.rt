@@ -54,7 +54,9 @@ impl Cursor<'_> {
         ensures takes { λ r. ⌜ Takes itself (byte (below limit) (left (now (self .entry)))) r (left (now (self .exit))) ⌝ }
         ensures within { λ r. ⌜ Within limit r ⌝ }
     {
-        let byte = self.first()?;
+        let Some(byte) = self.first() else {
+            return None;
+        };
         if byte >= limit {
             return None;
         }
@@ -67,7 +69,9 @@ impl Cursor<'_> {
     {
         let mut number = 0;
         for _i in 0..8usize {
-            let byte = self.byte(256)?;
+            let Some(byte) = self.byte(256) else {
+                return None;
+            };
             number = number * 256 + byte;
         }
         Some(number)
@@ -77,7 +81,9 @@ impl Cursor<'_> {
         ensures takes { λ r. ⌜ Takes itself (number (below limit) (left (now (self .entry)))) r (left (now (self .exit))) ⌝ }
         ensures within { λ r. ⌜ Within limit r ⌝ }
     {
-        let number = self.number()?;
+        let Some(number) = self.number() else {
+            return None;
+        };
         if number >= limit {
             return None;
         }
@@ -88,7 +94,9 @@ impl Cursor<'_> {
         ensures takes { λ r. ⌜ Takes itself (number (up-to most) (left (now (self .entry)))) r (left (now (self .exit))) ⌝ }
         ensures within { λ r. ⌜ Within (suc most) r ⌝ }
     {
-        let number = self.number()?;
+        let Some(number) = self.number() else {
+            return None;
+        };
         if number > most {
             return None;
         }
@@ -98,7 +106,9 @@ impl Cursor<'_> {
     pub(crate) fn register(&mut self) -> Option<Reg>
         ensures { λ r. ⌜ Takes reg-number (register (left (now (self .entry)))) r (left (now (self .exit))) ⌝ }
     {
-        let number = self.byte(16)?;
+        let Some(number) = self.byte(16) else {
+            return None;
+        };
         Some(Reg {
             number: number as u8,
         })
@@ -107,7 +117,9 @@ impl Cursor<'_> {
     pub(crate) fn place(&mut self) -> Option<u16>
         ensures { λ r. ⌜ Takes itself (place (left (now (self .entry)))) r (left (now (self .exit))) ⌝ }
     {
-        let place = self.below(65536)?;
+        let Some(place) = self.below(65536) else {
+            return None;
+        };
         Some(place as u16)
     }
 
@@ -115,21 +127,27 @@ impl Cursor<'_> {
     pub fn word(&mut self) -> Option<u32>
         ensures { λ r. ⌜ Takes itself (word (left (now (self .entry)))) r (left (now (self .exit))) ⌝ }
     {
-        let word = self.below(4294967296)?;
+        let Some(word) = self.below(4294967296) else {
+            return None;
+        };
         Some(word as u32)
     }
 
     pub(crate) fn op(&mut self) -> Option<Op>
         ensures { λ r. ⌜ Takes op-number (byte (below 10) (left (now (self .entry)))) r (left (now (self .exit))) ⌝ }
     {
-        let number = self.byte(10)?;
+        let Some(number) = self.byte(10) else {
+            return None;
+        };
         Some(op_numbered(number))
     }
 
     pub(crate) fn comparison(&mut self) -> Option<Comparison>
         ensures { λ r. ⌜ Takes comparison-number (byte (below 4) (left (now (self .entry)))) r (left (now (self .exit))) ⌝ }
     {
-        let number = self.byte(4)?;
+        let Some(number) = self.byte(4) else {
+            return None;
+        };
         Some(comparison_numbered(number))
     }
 }

@@ -24,23 +24,35 @@ impl Cursor<'_> {
     fn subject(&mut self) -> Option<Subject>
         ensures { λ r. ⌜ Takes subject-of (subject (left (now (self .entry)))) r (left (now (self .exit))) ⌝ }
     {
-        let kind = self.byte(2)?;
+        let Some(kind) = self.byte(2) else {
+            return None;
+        };
         if kind == 0 {
-            let number = self.below(16)?;
+            let Some(number) = self.below(16) else {
+                return None;
+            };
             return Some(Subject::Register(Reg {
                 number: number as u8,
             }));
         }
-        let word = self.place()?;
+        let Some(word) = self.place() else {
+            return None;
+        };
         Some(Subject::Word(word))
     }
 
     fn test(&mut self) -> Option<Test>
         ensures { λ r. ⌜ Takes test-of (test (left (now (self .entry)))) r (left (now (self .exit))) ⌝ }
     {
-        let subject = self.subject()?;
-        let comparison = self.comparison()?;
-        let value = self.word()?;
+        let Some(subject) = self.subject() else {
+            return None;
+        };
+        let Some(comparison) = self.comparison() else {
+            return None;
+        };
+        let Some(value) = self.word() else {
+            return None;
+        };
         Some(Test {
             subject,
             comparison,
@@ -55,7 +67,9 @@ impl Cursor<'_> {
     {
         let mut tests = [BLANK; 8];
         for i in 0..count {
-            let test = self.test()?;
+            let Some(test) = self.test() else {
+                return None;
+            };
             tests[i as usize] = test;
         }
         Some(tests)
@@ -65,21 +79,33 @@ impl Cursor<'_> {
     fn maybe_place(&mut self) -> Option<Option<u16>>
         ensures { λ r. ⌜ Takes listOf (counted 1 place (left (now (self .entry)))) r (left (now (self .exit))) ⌝ }
     {
-        let count = self.up_to(1)?;
+        let Some(count) = self.up_to(1) else {
+            return None;
+        };
         if count == 0 {
             return Some(None);
         }
-        let place = self.place()?;
+        let Some(place) = self.place() else {
+            return None;
+        };
         Some(Some(place))
     }
 
     pub(crate) fn stop(&mut self) -> Option<Break>
         ensures { λ r. ⌜ Takes break-of (break (left (now (self .entry)))) r (left (now (self .exit))) ⌝ }
     {
-        let place = self.maybe_place()?;
-        let count = self.up_to(8)?;
-        let tests = self.tests(count)?;
-        let changed = self.maybe_place()?;
+        let Some(place) = self.maybe_place() else {
+            return None;
+        };
+        let Some(count) = self.up_to(8) else {
+            return None;
+        };
+        let Some(tests) = self.tests(count) else {
+            return None;
+        };
+        let Some(changed) = self.maybe_place() else {
+            return None;
+        };
         Some(Break {
             place,
             tests,

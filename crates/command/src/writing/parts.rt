@@ -10,7 +10,7 @@ use crate::code::Op;
 use std::alloc::AllocError;
 
 // The bytes of a number, the highest first.
-pub fn eight_bytes(number: u64) -> [u64; 8]
+pub(crate) fn eight_bytes(number: u64) -> [u64; 8]
     ensures { λ r. ⌜ r ≡ eight number ⌝ }
 {
     let mut bytes = [0; 8];
@@ -51,6 +51,8 @@ pub(crate) fn put_number(out: &mut Vec<u64>, number: u64) -> Result<(), AllocErr
 pub(crate) fn put_with(out: &mut Vec<u64>, bytes: &[u64], number: u64) -> Result<(), AllocError>
     ensures { λ r. ⌜ Puts (vec-items (now (out .entry))) (now (bytes .entry) ++ eight number) r (vec-items (now (out .exit))) ⌝ }
 {
-    put(out, bytes)?;
+    let Ok(()) = put(out, bytes) else {
+        return Err(AllocError);
+    };
     put_number(out, number)
 }

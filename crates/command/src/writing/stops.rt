@@ -36,7 +36,9 @@ fn which(subject: Subject) -> u64
 fn put_test(out: &mut Vec<u64>, test: Test) -> Result<(), AllocError>
     ensures { λ r. ⌜ Puts (vec-items (now (out .entry))) (test-spelled (test-of test)) r (vec-items (now (out .exit))) ⌝ }
 {
-    put_with(out, &[kind(test.subject)], which(test.subject))?;
+    let Ok(()) = put_with(out, &[kind(test.subject)], which(test.subject)) else {
+        return Err(AllocError);
+    };
     put_with(
         out,
         &[comparison_number(test.comparison)],
@@ -48,7 +50,9 @@ fn put_tests(out: &mut Vec<u64>, tests: &[Test]) -> Result<(), AllocError>
     ensures { λ r. ⌜ Puts (vec-items (now (out .entry))) (flat test-written (now (tests .entry))) r (vec-items (now (out .exit))) ⌝ }
 {
     for test in tests {
-        put_test(out, *test)?;
+        let Ok(()) = put_test(out, *test) else {
+            return Err(AllocError);
+        };
     }
     Ok(())
 }
@@ -60,16 +64,24 @@ fn put_maybe_place(out: &mut Vec<u64>, place: Option<u16>) -> Result<(), AllocEr
     let Some(place) = place else {
         return put_number(out, 0);
     };
-    put_number(out, 1)?;
+    let Ok(()) = put_number(out, 1) else {
+        return Err(AllocError);
+    };
     put_number(out, place as u64)
 }
 
 pub(crate) fn put_break(out: &mut Vec<u64>, stop: Break) -> Result<(), AllocError>
     ensures { λ r. ⌜ Puts (vec-items (now (out .entry))) (break-spelled (break-of stop)) r (vec-items (now (out .exit))) ⌝ }
 {
-    put_maybe_place(out, stop.place)?;
-    put_number(out, stop.count as u64)?;
+    let Ok(()) = put_maybe_place(out, stop.place) else {
+        return Err(AllocError);
+    };
+    let Ok(()) = put_number(out, stop.count as u64) else {
+        return Err(AllocError);
+    };
     let tests = stop.tests;
-    put_tests(out, &tests[0..stop.count as usize])?;
+    let Ok(()) = put_tests(out, &tests[0..stop.count as usize]) else {
+        return Err(AllocError);
+    };
     put_maybe_place(out, stop.changed)
 }

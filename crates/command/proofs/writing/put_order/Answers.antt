@@ -46,9 +46,9 @@ pub returns-in-Outs : need.returns-in-Outs
 unfolding spelled
 returns-in-Outs c = search needs
 
-pub returns-in-Continue-put : need.returns-in-Continue-put
+pub returns-in-Ok : need.returns-in-Ok
 unfolding spelled
-returns-in-Continue-put c =
+returns-in-Ok c =
     rw (c .in-Break .is)
-    (puts-then (c .put-break .result) (vec-items (c .args .out .now)) (8 ∷ []) (break-spelled (break-of (c .in-Break .stop))) (vec-items (c .put .last .out)) (vec-items (c .put-break .last .out)) (c .in-Continue-put .ensures tt)
+    (puts-then (c .put-break .result) (vec-items (c .args .out .now)) (8 ∷ []) (break-spelled (break-of (c .in-Break .stop))) (vec-items (c .put .last .out)) (vec-items (c .put-break .last .out)) (c .in-Ok .ensures tt)
     (c .put-break .ensures))

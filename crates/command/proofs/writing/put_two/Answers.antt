@@ -6,5 +6,5 @@ use Rattle.command.proofs.writing.put_two.Needs as need
 
 pub returns : need.returns
 returns c =
-    puts-then (c .put-number .result) (vec-items (c .args .out .now)) (c .args .kind ∷ eight (c .args .first)) (eight (c .args .second)) (vec-items (c .put-with .last .out)) (vec-items (c .put-number .last .out)) (c .in-Continue-put-with .ensures tt)
+    puts-then (c .put-number .result) (vec-items (c .args .out .now)) (c .args .kind ∷ eight (c .args .first)) (eight (c .args .second)) (vec-items (c .put-with .last .out)) (vec-items (c .put-number .last .out)) (c .in-Ok .ensures tt)
     (c .put-number .ensures)

@@ -7,4 +7,4 @@ use Rattle.command.proofs.writing.write_give.Needs as need
 
 pub returns : need.returns
 unfolding spelled
-returns c = written-two (2 ∷ eight (length (c .args .numbers .now))) (flat eight (c .args .numbers .now)) (c .in-Continue-put-words .ensures tt) (c .in-Continue-put-with .ensures tt) (c .new-text .ensures .items)
+returns c = written-two (2 ∷ eight (length (c .args .numbers .now))) (flat eight (c .args .numbers .now)) (c .in-Ok-put-words .ensures tt) (c .in-Ok .ensures tt) (c .new-text .ensures .items)

@@ -11,5 +11,5 @@ use Rattle.command.proofs.writing.write_load.Needs as need
 pub returns : need.returns
 unfolding spelled
 returns c =
-    written-two (1 ∷ eight (length (c .args .program .now))) (flat instr-written (c .args .program .now)) (c .in-Continue-put-instrs .ensures tt) (c .in-Continue-put-with .ensures tt) (c .new-text .ensures .items)
+    written-two (1 ∷ eight (length (c .args .program .now))) (flat instr-written (c .args .program .now)) (c .in-Ok-put-instrs .ensures tt) (c .in-Ok .ensures tt) (c .new-text .ensures .items)
     ∙ ap (λ l. 1 ∷ l) (counted-each instr-spelled code (c .args .program .now))

@@ -35,5 +35,5 @@ returns c =
     λ i. place ++ eight ((sym few ∙ sym (each-length test-of ts)) i) ++ spelled i ++ changed in
     puts-as r old (place ++ count ++ tests ++ changed) (break-spelled (break-of b)) new e
     (puts-then r old (place ++ count ++ tests) changed third new
-    (wrote-then old (place ++ count) tests second third (wrote-then old place count first second (c .in-Continue-put-maybe-place .ensures tt) (c .in-Continue-put-number .ensures tt)) (c .in-Continue-put-tests .ensures tt))
+    (wrote-then old (place ++ count) tests second third (wrote-then old place count first second (c .in-Ok .ensures tt) (c .in-Ok-put-number .ensures tt)) (c .in-Ok-put-tests .ensures tt))
     (c .put-maybe-place-2 .ensures))

@@ -18,4 +18,4 @@ returns c =
     let p = eight (c .in-Some .place) in
     subst (λ (q : Option ℕ). Puts old (numbers (listOf q)) r new) (sym (c .in-Some .is))
     (puts-as r old (eight 1 ++ p) (eight 1 ++ (p ++ [])) new (ap (λ l. eight 1 ++ l) (sym (append-nil p)))
-    (puts-then r old (eight 1) p (vec-items (c .put-number-2 .last .out)) new (c .in-Continue-put-number .ensures tt) (c .put-number-3 .ensures)))
+    (puts-then r old (eight 1) p (vec-items (c .put-number-2 .last .out)) new (c .in-Ok .ensures tt) (c .put-number-3 .ensures)))

@@ -15,4 +15,4 @@ returns c =
     let a = c .kind .result ∷ eight (c .which .result) in
     let b = c .comparison-number .result ∷ eight (t .value) in
     let e : a ++ b ≡ test-spelled (test-of t) = λ i. c .kind .ensures i ∷ (eight (c .which .ensures i) ++ c .comparison-number .ensures i ∷ eight (t .value)) in
-    puts-as (c .put-with-2 .result) old (a ++ b) (test-spelled (test-of t)) new e (puts-then (c .put-with-2 .result) old a b (vec-items (c .put-with .last .out)) new (c .in-Continue-put-with .ensures tt) (c .put-with-2 .ensures))
+    puts-as (c .put-with-2 .result) old (a ++ b) (test-spelled (test-of t)) new e (puts-then (c .put-with-2 .result) old a b (vec-items (c .put-with .last .out)) new (c .in-Ok .ensures tt) (c .put-with-2 .ensures))

@@ -9,6 +9,6 @@ pub returns : need.returns
 unfolding numbers-in
 returns c =
     let t = left (c .args .self .now) in
-    let e = c .in-Continue-count .ensures tt .takes in
+    let e = c .in-Some .ensures tt .takes in
     let u = left (c .skip-words .last .self) in
-    record { takes = counted-as word 4096 t e (λ xs. give xs) u (c .in-Continue-skip-words .ensures tt); counted = counted-length word 4096 t e u (c .in-Continue-skip-words .ensures tt) }
+    record { takes = counted-as word 4096 t e (λ xs. give xs) u (c .in-Some-skip-words .ensures tt); counted = counted-length word 4096 t e u (c .in-Some-skip-words .ensures tt) }

@@ -9,6 +9,6 @@ pub returns : need.returns
 unfolding program-in
 returns c =
     let t = left (c .args .self .now) in
-    let e = c .in-Continue-count .ensures tt .takes in
+    let e = c .in-Some .ensures tt .takes in
     let u = left (c .skip-instrs .last .self) in
-    record { takes = counted-as instr 4096 t e (λ xs. load xs) u (c .in-Continue-skip-instrs .ensures tt); counted = counted-length instr 4096 t e u (c .in-Continue-skip-instrs .ensures tt) }
+    record { takes = counted-as instr 4096 t e (λ xs. load xs) u (c .in-Some-skip-instrs .ensures tt); counted = counted-length instr 4096 t e u (c .in-Some-skip-instrs .ensures tt) }

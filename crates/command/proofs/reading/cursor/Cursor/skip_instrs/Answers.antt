@@ -13,15 +13,15 @@ loop-i-holds c =
     let t = left (c .args .self .now) in
     ([], subst (λ (k : ℕ). Left instr (c .args .count) t k [] t) z (left-start instr (c .args .count) t))
 
-pub returns-in-Break--instr : need.returns-in-Break--instr
-returns-in-Break--instr c =
+pub returns-in-rest : need.returns-in-rest
+returns-in-rest c =
     let e : c .args .count - c .loop-i .-i ≡ suc (c .args .count - (c .loop-i .-i + 1)) = omega arith in
-    rw (c .from-residual .ensures) (left-none instr _ _ _ _ (c .loop-i .inv .0) (left (c .loop-i .self)) e (c .loop-i .inv .1) (c .in-Break--instr .ensures tt))
+    (left-none instr _ _ _ _ (c .loop-i .inv .0) (left (c .loop-i .self)) e (c .loop-i .inv .1) (c .in-rest .ensures tt))
 
 pub loop-i-again : need.loop-i-again
 loop-i-again c =
     let e : c .args .count - c .loop-i .-i ≡ suc (c .args .count - (c .loop-i .-i + 1)) = omega arith in
-    (c .loop-i .inv .0 ++ _ ∷ [], left-more instr _ _ _ _ (c .loop-i .inv .0) (left (c .loop-i .self)) e (c .loop-i .inv .1) (c .in-Continue--instr .ensures tt))
+    (c .loop-i .inv .0 ++ _ ∷ [], left-more instr _ _ _ _ (c .loop-i .inv .0) (left (c .loop-i .self)) e (c .loop-i .inv .1) (c .in-Some .ensures tt))
 
 pub returns : need.returns
 returns c = got-listed (left-end instr _ _ _ (c .loop-i .inv .0) (left (c .loop-i .self)) (omega arith) (c .loop-i .inv .1))

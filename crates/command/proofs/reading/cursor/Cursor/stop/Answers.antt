@@ -2,21 +2,21 @@ use borrow.Author.Needs.{needs}
 use Rattle.command.specs.Reader.{break}
 use Rattle.command.proofs.reading.cursor.Cursor.stop.Needs as need
 
-pub returns-in-Break-place : need.returns-in-Break-place
+pub returns-in-rest : need.returns-in-rest
 unfolding break
-returns-in-Break-place c = search needs
+returns-in-rest c = search needs
 
-pub returns-in-Break-count : need.returns-in-Break-count
+pub returns-in-rest-up-to : need.returns-in-rest-up-to
 unfolding break
-returns-in-Break-count c = search needs
+returns-in-rest-up-to c = search needs
 
-pub returns-in-Break-tests : need.returns-in-Break-tests
+pub returns-in-rest-tests : need.returns-in-rest-tests
 unfolding break
-returns-in-Break-tests c = search needs
+returns-in-rest-tests c = search needs
 
-pub returns-in-Break-changed : need.returns-in-Break-changed
+pub returns-in-rest-maybe-place : need.returns-in-rest-maybe-place
 unfolding break
-returns-in-Break-changed c = search needs
+returns-in-rest-maybe-place c = search needs
 
 pub returns : need.returns
 unfolding break
