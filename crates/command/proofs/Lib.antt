@@ -21,5 +21,6 @@ pub mod Spellings
 pub mod Texts
 pub mod Many
 pub mod Whole
+pub mod ToldRows
 pub mod Writes
 mod ReaderExamples

@@ -21,7 +21,7 @@ exact-register = exact-byte (below 16)
 exact-place : Exact eight (below 65536) place
 exact-place = exact-below 65536 (omega arith)
 
-exact-word : Exact eight a-word word
+pub exact-word : Exact eight a-word word
 exact-word = exact-below 4294967296 (omega arith)
 
 exact-steps : Exact eight (up-to billion) steps
@@ -97,7 +97,7 @@ instr-forth (take-in k) u h = made _ exact-register k u h
 instr-forth (put-out k) u h = made _ exact-register k u h
 instr-forth halt u h = refl
 
-exact-instr : Exact instr-spelled an-instr instr
+pub exact-instr : Exact instr-spelled an-instr instr
 unfolding instr
 exact-instr = record { back = by-first-right instr-spelled an-instr instr-ways instr-right; forth = instr-forth }
 
@@ -133,7 +133,7 @@ no-number b h =
     let e : b .id ≡ 0 = eqb-true (b .id) 0 (and-parts _ _ (and-parts _ _ h .0) .0) in
     λ i. record { id = sym e i; place = b .place; tests = b .tests; changed = b .changed }
 
-exact-break : Exact break-spelled a-break break
+pub exact-break : Exact break-spelled a-break break
 unfolding break
 exact-break =
     exact-as break-spelled a-break a-break-of
@@ -142,10 +142,10 @@ exact-break =
     (λ b. ((b .place, b .tests), b .changed)) no-number places-tests-places
 
 -- the commands
-exact-load : Exact (w-counted instr-spelled) (ok-counted 4096 an-instr) (counted 4096 instr)
+pub exact-load : Exact (w-counted instr-spelled) (ok-counted 4096 an-instr) (counted 4096 instr)
 exact-load = exact-list 4096 (omega arith) exact-instr
 
-exact-give : Exact (w-counted eight) (ok-counted 4096 a-word) (counted 4096 word)
+pub exact-give : Exact (w-counted eight) (ok-counted 4096 a-word) (counted 4096 word)
 exact-give = exact-list 4096 (omega arith) exact-word
 
 place-count : Exact (λ p. eight (p .0) ++ eight (p .1)) (λ p. below 65536 (p .0) && up-to 4096 (p .1)) (two place (number (up-to 4096)))
