@@ -1,2 +1,5 @@
 pub mod Promise
 pub mod Engine
+pub mod Entry
+pub mod Phases
+pub mod Rows

@@ -1,1 +1,14 @@
 // The debugger as a machine: its memory, its phases, one step.
+mod acts;
+mod beginning;
+mod cells;
+mod event;
+mod going;
+mod phase;
+mod row;
+mod stepping;
+
+pub use acts::Told;
+pub use cells::CELLS;
+pub use cells::ROW;
+pub use stepping::step;
