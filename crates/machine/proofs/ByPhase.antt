@@ -1,10 +1,10 @@
 -- Events by their phases: what is answered in each, and what is refused.
-use mathlib.Core.Path.{_≡_, refl, sym, ap, subst, _∙_}
-use mathlib.Core.Bool.{Bool, true, false, _&&_, not}
+use mathlib.Core.Path.{_≡_, refl, ap, subst, _∙_}
+use mathlib.Core.Bool.{Bool}
 use mathlib.Core.List.{List, [], _∷_, _++_}
-use Prim.Native.Nat.{ℕ, zero, suc, _+_, _-_, _%_, _/_, _≤_, _<_}
+use Prim.Native.Nat.{ℕ, suc, _+_, _%_, _/_, _≤_, _<_}
 use native.Mathlib.Omega.{arith}
-use lib.Dec.{eqb, ltb, leb}
+use lib.Dec.{eqb, leb}
 use lib.ListN.{length, getD, set}
 use Rattle.std.specs.declared.option.Option.the-variants.{Some, None}
 use Rattle.std.proofs.shelf.Tests.{le-leb, lt-leb}
@@ -13,7 +13,7 @@ use Rattle.checkpoints.specs.Arrivals.{beginning-slot, arrival-slot}
 use Rattle.command.specs.Machine.{pick, flat, eight}
 use Rattle.command.proofs.Picks.{pick-true, pick-false}
 use Rattle.target.specs.Run.{keeps, shows, done, refused}
-use Rattle.machine.specs.Engine.{Plan, Write, puts, plan, written, cell, limit, set-off, kept-or, went, unexpected, on-came, on-saw, on-next}
+use Rattle.machine.specs.Engine.{Write, puts, plan, written, cell, limit, set-off, went, unexpected, on-came, on-saw, on-next}
 use Rattle.machine.specs.Entry.{Act-told, Carries}
 use Rattle.machine.specs.Phases.{phase-number, phase-of}
 use Rattle.machine.specs.declared.phase.Phase.{Phase}
@@ -23,46 +23,22 @@ use Rattle.machine.specs.declared.acts.Told.the-variants.{Keeps, Done, No}
 use Rattle.machine.proofs.Rows.{three-shown}
 use Rattle.machine.proofs.Plans.{carries-at, time-kept, kept-none, kept-some}
 
--- a cell is asked for its phase, or for its number: that's the same, but that a number that is no phase's is taken for 0
+-- a cell's number, or that of its phase: where a number that is no phase's is refused, that's the same
+same-phase : (n k : ℕ) → 0 < k → k < 7 → eqb (phase-number (phase-of n)) k ≡ eqb n k
+same-phase n k l h = grind (arith, tells)
+
 module _ (n : ℕ) where
-  same-at : (k : ℕ) → Type 0
-  same-at k = eqb (phase-number (phase-of n)) k ≡ eqb n k
-
-  same-1 : same-at 1
-  unfolding same-at
-  same-1 = grind (arith, tells)
-
-  same-2 : same-at 2
-  unfolding same-at
-  same-2 = grind (arith, tells)
-
-  same-3 : same-at 3
-  unfolding same-at
-  same-3 = grind (arith, tells)
-
-  same-4 : same-at 4
-  unfolding same-at
-  same-4 = grind (arith, tells)
-
-  same-5 : same-at 5
-  unfolding same-at
-  same-5 = grind (arith, tells)
-
-  same-6 : same-at 6
-  unfolding same-at
-  same-6 = grind (arith, tells)
-
   pub came-same : (m : List ℕ) (by : ℕ) (hit : Bool) (why : ℕ) → on-came (phase-number (phase-of n)) m by hit why ≡ on-came n m by hit why
-  unfolding on-came same-at
-  came-same m by hit why = ap (λ b. pick b (went m by hit why) unexpected) same-3
+  unfolding on-came
+  came-same m by hit why = rw (same-phase n 3 (omega arith) (omega arith))
 
   pub saw-same : (m xs : List ℕ) → on-saw (phase-number (phase-of n)) m xs ≡ on-saw n m xs
-  unfolding on-saw same-at
-  saw-same m xs = rw (same-5, same-6)
+  unfolding on-saw
+  saw-same m xs = rw (same-phase n 5 (omega arith) (omega arith), same-phase n 6 (omega arith) (omega arith))
 
   pub next-same : (m : List ℕ) → on-next (phase-number (phase-of n)) m ≡ on-next n m
-  unfolding on-next same-at
-  next-same m = rw (same-1, same-2, same-4)
+  unfolding on-next
+  next-same m = rw (same-phase n 1 (omega arith) (omega arith), same-phase n 2 (omega arith) (omega arith), same-phase n 4 (omega arith) (omega arith))
 
 refuses : (m out : List ℕ) → Carries unexpected m (No 1) out m out
 unfolding written

@@ -1,25 +1,25 @@
 -- What the code does, as the plans of the definition say it.
 use mathlib.Core.Path.{_≡_, refl, sym, ap, subst, _∙_}
 use mathlib.Core.Bool.{Bool, true, false, _&&_, not}
-use mathlib.Core.List.{List, [], _∷_, _++_}
-use Prim.Native.Nat.{ℕ, zero, suc, _+_, _-_, _%_, _/_, _≤_, _<_}
+use mathlib.Core.List.{List, [], _∷_}
+use Prim.Native.Nat.{ℕ, _+_, _-_, _%_, _/_, _≤_, _<_}
 use native.Mathlib.Omega.{arith}
-use lib.Dec.{eqb, ltb, leb}
+use lib.Dec.{eqb, ltb}
 use lib.ListN.{length, getD, set, length-set}
 use Rattle.std.specs.declared.option.Option.{Option}
 use Rattle.std.specs.declared.option.Option.the-variants.{Some, None}
-use Rattle.std.proofs.shelf.Tests.{eq-eqb, ne-eqb, lt-ltb, le-ltb, le-leb, lt-leb}
-use Rattle.checkpoints.specs.Arrivals.{beginning-slot, arrival-slot, levels-reached}
+use Rattle.std.proofs.shelf.Tests.{eq-eqb, ne-eqb, lt-ltb, le-ltb}
+use Rattle.checkpoints.specs.Arrivals.{arrival-slot, levels-reached}
 use Rattle.command.specs.Machine.{pick, flat, eight, Instr}
 use Rattle.command.specs.Plain.{load, give, forward, instr-spelled, core}
 use Rattle.command.specs.Reader.{some}
-use Rattle.command.proofs.Picks.{pick-true, pick-false, by-test}
-use Rattle.target.specs.Run.{Act, starts, feeds, goes, keeps, shows, done, refused}
-use Rattle.machine.specs.Engine.{Plan, Write, puts, plan, written, cell, limit, gaps-shut, stride, arrived, set-off, kept-or, come-to, went, begin, begin-read, unexpected}
+use Rattle.command.proofs.Picks.{pick-true, pick-false}
+use Rattle.target.specs.Run.{feeds, goes, keeps, shows, refused}
+use Rattle.machine.specs.Engine.{Plan, Write, puts, plan, written, cell, limit, gaps-shut, stride, arrived, set-off, kept-or, come-to, went, begin, begin-read}
 use Rattle.machine.specs.Entry.{on-row, Act-told, Carries}
 use Rattle.machine.specs.declared.acts.Told.{Told}
-use Rattle.machine.specs.declared.acts.Told.the-variants.{Starts, Feeds, Goes, Keeps, Shows, Done, No}
-use Rattle.machine.proofs.Rows.{one-shown, three-shown}
+use Rattle.machine.specs.declared.acts.Told.the-variants.{Starts, Feeds, Goes, Keeps, No}
+use Rattle.machine.proofs.Rows.{one-shown}
 
 -- the same plan under another name
 pub carries-at : {p q : Plan} (m : List ℕ) (r : Told) (out m₁ out₁ : List ℕ) → p ≡ q → Carries q m r out m₁ out₁ → Carries p m r out m₁ out₁

@@ -1,21 +1,20 @@
 -- Commands as they are read, and those that hold all that they say.
-use mathlib.Core.Path.{_≡_, refl, sym, ap, subst, _∙_}
-use mathlib.Core.Bool.{Bool, true, false, _&&_}
+use mathlib.Core.Path.{_≡_, refl, sym, ap, _∙_}
+use mathlib.Core.Bool.{true}
 use mathlib.Core.List.{List, [], _∷_}
-use Prim.Native.Nat.{ℕ, _-_, _≤_, _<_}
+use Prim.Native.Nat.{ℕ, _-_, _≤_}
 use native.Mathlib.Omega.{arith}
-use lib.Dec.{leb}
 use lib.ListN.{length, set}
 use Rattle.std.proofs.shelf.Tests.{leb-true}
 use Rattle.command.specs.Machine.{smaller}
-use Rattle.command.specs.Plain.{Command, forward, fits, core, billion}
+use Rattle.command.specs.Plain.{Command, fits, core, billion}
 use Rattle.command.specs.Reader.{Read, none, some, read-command, Says}
 use Rattle.command.specs.Told.{meant}
 use Rattle.command.specs.declared.commands.Order.{Order}
 use Rattle.command.specs.declared.commands.Order.the-variants.{Forward, Back, Run, Rerun, Changer, Break, Drop, Where, Registers, Words, Outs}
 use Rattle.command.proofs.Spellings.{read-back, read-forth}
-use Rattle.machine.specs.Engine.{puts, plan, written, cell, limit, set-off, begin, begin-read}
-use Rattle.machine.specs.Entry.{on-row, Act-told, Carries}
+use Rattle.machine.specs.Engine.{written, cell, set-off, begin, begin-read}
+use Rattle.machine.specs.Entry.{on-row, Carries}
 use Rattle.machine.specs.declared.acts.Told.{Told}
 use Rattle.machine.specs.declared.acts.Told.the-variants.{Looks, No}
 use Rattle.machine.proofs.Plans.{carries-at, forwards}

@@ -1,13 +1,13 @@
 -- The whole step, by whether what is lent fits.
-use mathlib.Core.Path.{_≡_, refl, sym, ap, subst, _∙_}
-use mathlib.Core.Bool.{Bool, true, false, _&&_}
+use mathlib.Core.Path.{_≡_, refl}
+use mathlib.Core.Bool.{true, false, _&&_}
 use mathlib.Core.List.{List}
 use Prim.Native.Nat.{ℕ}
 use lib.Dec.{eqb, leb}
 use lib.ListN.{length}
 use Rattle.std.proofs.shelf.Lists.{length-replicate}
 use Rattle.std.proofs.shelf.Tests.{eq-eqb}
-use Rattle.machine.specs.Engine.{cell, planned, carried, own, on-came, on-saw, on-next}
+use Rattle.machine.specs.Engine.{planned, carried, own}
 use Rattle.machine.specs.Entry.{Carries, Step-says, step-fits, event-of}
 use Rattle.machine.specs.declared.acts.Told.{Told}
 use Rattle.machine.specs.declared.acts.Told.the-variants.{No}

@@ -1,21 +1,21 @@
 -- What stands where in a text that says a load or a give.
-use mathlib.Core.Path.{_≡_, refl, sym, ap, subst, _∙_}
-use mathlib.Core.Bool.{Bool, true, false, _&&_}
+use mathlib.Core.Path.{_≡_, refl, sym, ap, _∙_}
+use mathlib.Core.Bool.{true}
 use mathlib.Core.List.{List, [], _∷_, _++_}
-use Prim.Native.Nat.{ℕ, zero, suc, _+_, _*_, _-_, _≤_, _<_}
+use Prim.Native.Nat.{ℕ, suc, _+_, _*_, _-_, _≤_, _<_}
 use native.Mathlib.Omega.{arith}
-use lib.Dec.{leb, ltb}
+use lib.Dec.{leb}
 use lib.ListN.{length, take, drop, getD, set, length-append}
 use Rattle.std.proofs.shelf.Lists.{drop-at, at-drop-more, take-more, length-take-le}
 use Rattle.std.proofs.shelf.Parts.{between-to-end}
 use Rattle.std.proofs.shelf.Tests.{and-parts, leb-true}
 use Rattle.command.specs.Machine.{eight, flat, every, Instr, load-number, copy, reckon, read, write, jump, jump-if, call, return, take-in, put-out, halt}
 use Rattle.command.specs.Plain.{load, give, spelled, fits, instr-spelled, an-instr, a-word}
-use Rattle.command.specs.Reader.{Says, Got, got, nothing, word}
+use Rattle.command.specs.Reader.{Says, got, nothing, word}
 use Rattle.command.proofs.Digits.{exact-below}
 use Rattle.command.proofs.Every.{every-at}
 use Rattle.machine.specs.Entry.{on-row}
-use Rattle.machine.proofs.Rows.{length-eight, length-eights, row-push}
+use Rattle.machine.proofs.Rows.{length-eight, row-push}
 
 -- the part of a text behind its first byte and a count, as the code has it
 abbrev pub behind : List ℕ → List ℕ

@@ -1,10 +1,10 @@
 -- Writes of a plan as writes of the code, and the order in which they come.
-use mathlib.Core.Path.{_≡_, refl, sym, ap, _∙_}
-use mathlib.Core.List.{List, [], _∷_, _++_}
-use Prim.Native.Nat.{ℕ, zero, suc, _+_, _-_, _%_, _≤_, _<_}
+use mathlib.Core.Path.{_≡_, refl}
+use mathlib.Core.List.{List}
+use Prim.Native.Nat.{ℕ, zero, suc, _+_, _-_, _≤_, _<_}
 use native.Mathlib.Omega.{arith}
-use lib.ListN.{length, getD, set}
-use Rattle.machine.specs.Engine.{Write, puts, written, gaps-shut, limit}
+use lib.ListN.{set}
+use Rattle.machine.specs.Engine.{written, gaps-shut}
 
 -- the gaps, from the highest level down
 pub gaps-turn : (m : List ℕ) (n : ℕ) → 0 < n → written (gaps-shut (n - 1)) (set m (16 + (n - 1)) 0) ≡ written (gaps-shut n) m

@@ -7,7 +7,7 @@ use lib.Dec.{eqb, leb}
 use lib.ListN.{length, drop}
 use Rattle.command.specs.Machine.{pick, flat}
 use Rattle.command.specs.Plain.{instr-spelled, break-spelled}
-use Rattle.target.specs.Run.{Event, said, came, saw, next, Act, starts, feeds, goes, keeps, takes-up, looks-regs, looks-words, looks-outs, looks-where, shows, done, refused, Step}
+use Rattle.target.specs.Run.{Event, said, came, saw, next, Act, starts, feeds, goes, keeps, takes-up, looks-regs, looks-words, looks-outs, looks-where, shows, done, refused}
 use Rattle.machine.specs.Engine.{Plan, written, own}
 use Rattle.machine.specs.declared.acts.Told.{Told}
 use Rattle.machine.specs.declared.acts.Told.the-variants.{Starts, Feeds, Goes, Keeps, TakesUp, Looks, Shows, Done, No}

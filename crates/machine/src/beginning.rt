@@ -109,6 +109,7 @@ fn obey(memory: &mut [u64], order: Order, out: &mut [u64]) -> Told
     }
 }
 
+// A command that was read from the text.
 fn begin(memory: &mut [u64], command: Command, text: &[u64], out: &mut [u64]) -> Told
     requires says { ⌜ Says-so (now text) (told-by (drop 1 (now text)) command) ⌝ }
     requires counts { ⌜ Counts (drop 1 (now text)) command ⌝ }

@@ -28,6 +28,7 @@ use checkpoints::numbers::STRIDE;
 // How many numbers are shown at most.
 const MOST_SHOWN: usize = 4_096;
 
+// The processor came so far.
 fn on_came(memory: &mut [u64], phase: Phase, by: u64, hit: bool, why: u64, out: &mut [u64]) -> Told
     requires cells { ⌜ length (now memory) ≡ 32000 ⌝ }
     requires row { ⌜ 65536 ≤ length (now out) ⌝ }
@@ -49,6 +50,7 @@ fn number_at(numbers: &[u64], place: usize) -> u64
     0
 }
 
+// It was looked at: that is shown, if there is room for it.
 fn on_saw(memory: &mut [u64], phase: Phase, seen: &[u64], out: &mut [u64]) -> Told
     requires cells { ⌜ length (now memory) ≡ 32000 ⌝ }
     requires row { ⌜ 65536 ≤ length (now out) ⌝ }
@@ -88,6 +90,7 @@ fn keep(memory: &mut [u64], slot: u64) -> Told
     Told::Keeps(slot)
 }
 
+// The last act is done: on with the plan.
 fn on_next(memory: &mut [u64], phase: Phase, out: &mut [u64]) -> Told
     requires cells { ⌜ length (now memory) ≡ 32000 ⌝ }
     requires row { ⌜ 65536 ≤ length (now out) ⌝ }
@@ -107,6 +110,7 @@ fn on_next(memory: &mut [u64], phase: Phase, out: &mut [u64]) -> Told
     }
 }
 
+// What the debugger does next; whatever it is at, a command begins anew.
 fn react(memory: &mut [u64], event: Event, out: &mut [u64]) -> Told
     requires cells { ⌜ length (now memory) ≡ 32000 ⌝ }
     requires row { ⌜ 65536 ≤ length (now out) ⌝ }

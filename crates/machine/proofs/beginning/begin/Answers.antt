@@ -1,4 +1,4 @@
-use mathlib.Core.Path.{sym, ap, subst}
+use mathlib.Core.Path.{ap}
 use lib.ListN.{drop}
 use Rattle.command.specs.Plain.{core}
 use Rattle.command.specs.Reader.{some}

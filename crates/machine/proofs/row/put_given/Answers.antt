@@ -1,6 +1,6 @@
-use mathlib.Core.Path.{_≡_, refl, sym, ap, _∙_}
+use mathlib.Core.Path.{refl, ap, _∙_}
 use native.Mathlib.Omega.{arith}
-use lib.ListN.{length, drop}
+use lib.ListN.{drop}
 use Rattle.std.proofs.shelf.Lists.{take-all}
 use Rattle.command.specs.Told.{numbers-in}
 use Rattle.machine.specs.Entry.{on-row}

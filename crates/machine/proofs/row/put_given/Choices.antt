@@ -1,6 +1,5 @@
 use mathlib.Core.Path.{_≡_}
-use Prim.Native.Nat.{_≤_}
-use lib.ListN.{length, take, drop}
+use lib.ListN.{take, drop}
 use Rattle.command.specs.Machine.{eight, flat}
 use Rattle.command.specs.Taken.{left}
 use Rattle.command.specs.Told.{numbers-in}

@@ -1,4 +1,4 @@
-use mathlib.Core.Path.{_≡_, sym, ap, _∙_}
+use mathlib.Core.Path.{sym, ap, _∙_}
 use lib.ListN.{getD}
 use Rattle.machine.specs.Engine.{cell, planned, on-came, on-saw, on-next}
 use Rattle.machine.specs.Phases.{phase-number, event-meant}
