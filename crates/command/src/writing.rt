@@ -22,6 +22,8 @@ mod instruction;
 mod parts;
 mod stops;
 
+pub use parts::eight_bytes;
+
 // Two numbers behind a byte.
 fn put_two(out: &mut Vec<u64>, kind: u64, first: u64, second: u64) -> Result<(), AllocError>
     ensures { λ r. ⌜ Puts (vec-items (now (out .entry))) (kind ∷ eight first ++ eight second) r (vec-items (now (out .exit))) ⌝ }

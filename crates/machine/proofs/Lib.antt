@@ -4,6 +4,7 @@ pub mod Runs
 pub mod GapCells
 pub mod Kept
 pub mod Stands
+pub mod RegsCount
 pub mod Looks
 pub mod Plays
 pub mod KeepsAll
@@ -15,3 +16,10 @@ pub mod Rides
 pub mod Forwards
 pub mod Promises
 pub mod Whole
+pub mod Rows
+pub mod Texts
+pub mod Writes
+pub mod Plans
+pub mod ByPhase
+pub mod Said
+pub mod Steps

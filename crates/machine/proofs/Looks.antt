@@ -2,22 +2,24 @@
 use mathlib.Core.Path.{_≡_, refl, sym, ap, _∙_}
 use mathlib.Core.Bool.{true}
 use mathlib.Core.List.{List, [], _∷_, _++_}
-use Prim.Native.Nat.{ℕ, suc, _+_, _-_, _%_, _≤_}
+use Prim.Native.Nat.{ℕ, zero, suc, _+_, _-_, _%_, _≤_}
 use native.Mathlib.Omega.{arith}
-use lib.Dec.{ltb, lit≤}
-use lib.ListN.{getD, take, drop}
+use lib.Dec.{ltb, leb, lit≤}
+use lib.ListN.{getD, length, take, drop}
+use Rattle.std.proofs.shelf.Lists.{length-take}
 use Rattle.std.proofs.shelf.Tests.{and-parts, ltb-true, ltb-false, leb-true, le-leb}
-use Rattle.command.specs.Machine.{eight, smaller, State, state-at}
+use Rattle.command.specs.Machine.{eight, flat, smaller, State, state-at}
 use Rattle.command.specs.Plain.{where-now, registers, words-from, outs-from, fits, Plain, turn, yes-with, at-time, may-step, status-number}
-use Rattle.command.proofs.Picks.{pick-both}
+use Rattle.command.proofs.Picks.{pick-both, pick-true}
 use Rattle.command.proofs.Shown.{shown-cut}
-use Rattle.target.specs.Run.{saw, looks-where, looks-regs, looks-words, looks-outs, shows, Slot, world, ran, words-of}
+use Rattle.target.specs.Run.{saw, looks-where, looks-regs, looks-words, looks-outs, shows, Slot, Target, world, ran, words-of}
 use Rattle.target.proofs.Looked.{shown-looked}
-use Rattle.machine.specs.Engine.{puts, written, plan, planned, begin, on-saw, limit, phase, ending, placing, telling}
+use Rattle.machine.specs.Engine.{puts, written, plan, planned, begin, on-saw, unexpected, limit, phase, ending, placing, telling}
 use Rattle.machine.specs.Plans.{Plans, Agrees, phases}
 use Rattle.machine.proofs.Memory.{cell-put, Alike, alike-then, alike-written}
 use Rattle.machine.proofs.Runs.{Ends, ends-within, acts}
 use Rattle.machine.proofs.Kept.{target-of}
+use Rattle.machine.proofs.RegsCount.{sixteen}
 use Rattle.machine.proofs.Stands.{lasting, Lasts, Stands, Comes, Obeyed, lasts-alike, fair-less, in-phase, ended}
 
 -- what is shown at last, with nothing changed
@@ -53,6 +55,16 @@ module _ (plans : Plans) (agrees : Agrees plans) (left : ℕ) (w : Plain) (sl : 
       (ended agrees (l₂ .sized) (cell-put (puts phase ending ∷ []) m₁ phase (l₁ .sized) refl)
       (quiet sl s₁ s h (alike-then a₁ (alike-then a₂ (alike-written _ m₂ refl))) e))
 
+-- as many numbers as can be told at once are shown
+told-row : (xs m : List ℕ) → length xs ≤ 4096 → on-saw telling m xs ≡ plan (puts phase ending ∷ []) (shows (flat eight xs))
+unfolding on-saw
+told-row xs m h = pick-true (leb (length xs) 4096) (plan (puts phase ending ∷ []) (shows (flat eight xs))) unexpected (le-leb (length xs) 4096 h)
+
+words-count : (t : Target) (a n : ℕ) → length (words-of t a n) ≡ n
+unfolding words-of
+words-count t a zero = refl
+words-count t a (suc n) = ap suc (words-count t (suc a) n)
+
 pub where-obeyed : Obeyed where-now
 unfolding begin turn may-step on-saw state-at
 where-obeyed plans g left w sl m text h f q =
@@ -68,14 +80,18 @@ unfolding begin turn may-step on-saw
 registers-obeyed plans g left w sl m text h f q =
     ends-within {b = 3} (lit≤ tt)
     (acts {ws = puts phase telling ∷ []} {a = looks-regs} (h .lasts .sized) q
-    (looked plans g left w sl m (at-time w (w .now) .regs) _ _ telling h refl refl (λ m₁ l. refl) refl))
+    (looked plans g left w sl m (at-time w (w .now) .regs) _ _ telling h refl refl
+    (λ m₁ l. told-row (at-time w (w .now) .regs) m₁ (omega (arith, sixteen (w .program) (w .ins) (w .now)))) refl))
 
 pub outs-obeyed : (a n : ℕ) → Obeyed (outs-from a n)
 unfolding begin turn may-step on-saw fits
 outs-obeyed a n plans g left w sl m text h f q =
     ends-within {b = 3} (lit≤ tt)
-    (acts {ws = puts phase telling ∷ []} {a = looks-outs a n} (h .lasts .sized) q
-    (and-parts _ _ f .1, looked plans g left w sl m (take n (drop a (at-time w (w .now) .out))) _ _ telling h refl refl (λ m₁ l. refl) refl))
+    (acts {ws = puts phase telling ∷ []} {a = looks-outs a n} (h .lasts .sized) q (
+      and-parts _ _ f .1,
+      looked plans g left w sl m (take n (drop a (at-time w (w .now) .out))) _ _ telling h refl refl
+          (λ m₁ l. told-row (take n (drop a (at-time w (w .now) .out))) m₁ (omega (arith, length-take n (drop a (at-time w (w .now) .out)), leb-true n 4096 (and-parts _ _ f .1)))) refl,
+    ))
 
 smaller-least : (a b : ℕ) → (smaller a b ≤ a) × (smaller a b ≤ b)
 smaller-least a b = pick-both (λ (x : ℕ). (x ≤ a) × (x ≤ b)) (ltb a b) a b (λ e. (omega arith, omega (arith, ltb-true a b e))) (λ e. (omega (arith, ltb-false a b e), omega arith))
@@ -89,6 +105,7 @@ words-obeyed a n plans g left w sl m text h f q =
     ends-within {b = 3} (lit≤ tt)
     (acts {ws = puts phase telling ∷ []} {a = looks-words a k} (h .lasts .sized) q (
       le-leb k 4096 (omega (arith, l .0, leb-true n 4096 (and-parts _ _ f .1))),
-      looked plans g left w sl m (words-of t a k) _ _ telling h refl refl (λ m₁ l. refl)
+      looked plans g left w sl m (words-of t a k) _ _ telling h refl refl
+          (λ m₁ q. told-row (words-of t a k) m₁ (omega (arith, words-count t a k, l .0, leb-true n 4096 (and-parts _ _ f .1))))
           (sym (shown-cut (t .state .words) a n ∙ shown-looked t a k (omega (arith, l .1, ltb-true a 65536 (and-parts _ _ f .0))))),
     ))

@@ -2,7 +2,7 @@
 use mathlib.Core.Bool.{Bool, true, false, _&&_, not}
 use mathlib.Core.List.{List, [], _∷_, _++_}
 use Prim.Native.Nat.{ℕ, zero, suc, _+_, _-_, _/_, _%_}
-use lib.Dec.{eqb, ltb}
+use lib.Dec.{eqb, ltb, leb}
 use lib.ListN.{length, getD, set, replicate}
 use Rattle.std.specs.declared.option.Option.{Option}
 use Rattle.std.specs.declared.option.Option.the-variants.{Some, None}
@@ -155,7 +155,7 @@ on-came p m by hit why = pick (eqb p going-on) (went m by hit why) unexpected
 unfoldable pub on-saw : ℕ → List ℕ → List ℕ → Plan
 on-saw p m xs =
     pick (eqb p placing) (plan (puts phase ending ∷ []) (shows (eight (cell m time) ++ eight (getD xs 0 0) ++ eight (getD xs 1 0))))
-    (pick (eqb p telling) (plan (puts phase ending ∷ []) (shows (flat eight xs))) unexpected)
+    (pick (eqb p telling && leb (length xs) 4096) (plan (puts phase ending ∷ []) (shows (flat eight xs))) unexpected)
 
 unfoldable pub on-next : ℕ → List ℕ → Plan
 on-next p m =

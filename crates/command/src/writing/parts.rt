@@ -10,7 +10,7 @@ use crate::code::Op;
 use std::alloc::AllocError;
 
 // The bytes of a number, the highest first.
-pub(crate) fn eight_bytes(number: u64) -> [u64; 8]
+pub fn eight_bytes(number: u64) -> [u64; 8]
     ensures { λ r. ⌜ r ≡ eight number ⌝ }
 {
     let mut bytes = [0; 8];
