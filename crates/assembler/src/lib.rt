@@ -4,6 +4,7 @@
 // Operands are separated by blanks, a comma or both. A register is a number from 0 to 15, also after an r; a number is decimal, or
 // hexadecimal after 0x. A line may begin with a label, as `large:`, that names the place of the next instruction, and a place that is
 // wanted is a label or a number. The words equal, unequal, below and not, behind `jump`, are no labels.
+#![tactic(auto)]
 mod cursor;
 mod instruction;
 mod labels;

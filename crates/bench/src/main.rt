@@ -1,5 +1,6 @@
 // How quick it is: 40 million steps of a program on the processor, plain, with states kept, with breaks; states taken up; and the same through the whole
 // debugger. With no program, nothing.
+#![tactic(auto)]
 mod whole;
 
 use anyhow::anyhow;

@@ -1,4 +1,6 @@
 // Commands, breaks and programs: the lowest layer, with the definitions of the processor and of the plain debugger.
+#![tactic(auto)]
+
 pub mod breaks;
 pub mod code;
 pub mod commands;

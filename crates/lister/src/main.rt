@@ -1,4 +1,5 @@
 // Lists the program of a file: source text, or the bytes that spell a program.
+#![tactic(auto)]
 mod programs;
 #[cfg(test)]
 mod tests;

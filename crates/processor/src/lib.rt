@@ -1,4 +1,5 @@
 // A processor of our own, with 256 slots for kept states.
+#![tactic(auto)]
 pub mod acting;
 pub mod arith;
 mod copying;

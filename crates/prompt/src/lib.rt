@@ -1,4 +1,6 @@
 // What is typed at the prompt: requests, and mistakes with the place where they stand.
+#![tactic(auto)]
+
 pub mod mistakes;
 pub mod quantities;
 pub mod requests;

@@ -1,4 +1,5 @@
 // What the processor is told and what it tells.
+#![tactic(auto)]
 pub mod answers;
 pub mod processor;
 pub mod statements;

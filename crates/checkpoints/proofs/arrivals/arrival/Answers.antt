@@ -11,7 +11,7 @@ loop-level-init c = (refl, omega arith)
 pub returns-then-left-eq0 : goal.returns-then-left-eq0
 returns-then-left-eq0 c =
     let l = c.loop-level in
-    let e = l.invariant.0 ∙ at_point l.level l.point l.left (omega arith) (omega arith) ∙ ap Some (sym c.slot-of.ensures) in
+    let e = l.invariant.0 ∙ at_point l.level l.point l.left (omega arith) (omega arith) ∙ ap Some (sym c.slot_of.ensures) in
     record { slot = sym e; few = subst SlotFew e (arrival_few c.args.n c.args.i) }
 
 pub returns-then-point-ne0 : goal.returns-then-point-ne0
@@ -23,9 +23,9 @@ returns-then-point-ne0 c =
 pub returns-then-left-eq1 : goal.returns-then-left-eq1
 returns-then-left-eq1 c =
     let l = c.loop-level in
-    let b = c.saturating-sub.ensures in
+    let b = c.saturating_sub.ensures in
     let e = l.invariant.0 ∙ at_end l.level l.point l.left (omega arith) (omega arith) (omega arith)
-    ∙ ap (λ q. Some (slot l.level q 8)) (sym b) ∙ ap Some (sym c.slot-of-then-left-eq1.ensures) in
+    ∙ ap (λ q. Some (slot l.level q 8)) (sym b) ∙ ap Some (sym c.slot_of-then-left-eq1.ensures) in
     record { slot = sym e; few = subst SlotFew e (arrival_few c.args.n c.args.i) }
 
 pub loop-level-preserved : goal.loop-level-preserved

@@ -12,19 +12,19 @@ pub returns-then-back-eq0 : goal.returns-then-back-eq0
 returns-then-back-eq0 c =
     let l = c.loop-v in
     let e = turn l.v l.g c.args.gaps.now l.n l.k _ _ (omega arith) l.invariant.0 (in_block _ _ _ _ _ _ (omega arith)) in
-    let r = both c.args.gaps.now c.args.t c.args.y _ _ _ _ c.requires e c.slot-of.ensures refl in
+    let r = both c.args.gaps.now c.args.t c.args.y _ _ _ _ c.requires e c.slot_of.ensures refl in
     record { slot = r.0; time = r.1; few = r.2 }
 
 pub returns-then-k-left : goal.returns-then-k-left
 returns-then-k-left c =
     let l = c.loop-v in
     let e = turn l.v l.g c.args.gaps.now l.n l.k _ _ (omega arith) l.invariant.0 (below_point _ _ _ _ _ _ (omega arith) (omega arith)) in
-    let r = both c.args.gaps.now c.args.t c.args.y _ _ _ _ c.requires e c.slot-of-then-k-left.ensures refl in
+    let r = both c.args.gaps.now c.args.t c.args.y _ _ _ _ c.requires e c.slot_of-then-k-left.ensures refl in
     record { slot = r.0; time = r.1; few = r.2 }
 
 -- the point is at or before t
-pub overflow-mul-point-then-back-eq1 : goal.overflow-mul-point-then-back-eq1
-overflow-mul-point-then-back-eq1 c =
+pub overflow_mul-point-then-back-eq1 : goal.overflow_mul-point-then-back-eq1
+overflow_mul-point-then-back-eq1 c =
     let l = c.loop-v in
     let p : 8 * (l.k / 8) + (7 - l.n % 8 + 1) ≤ l.n = omega arith in
     omega (arith, mul-le-mul_right l.g p)
@@ -34,12 +34,12 @@ returns-then-back-eq1 c =
     let l = c.loop-v in
     let i : 7 - l.n % 8 + 1 ≡ suc (7 - l.n % 8) = omega arith in
     let e = turn l.v l.g c.args.gaps.now l.n l.k _ _ (omega arith) l.invariant.0 (below_next _ _ _ _ _ _ (omega arith) c.if-k-left.false) in
-    let r = both c.args.gaps.now c.args.t c.args.y _ _ _ _ c.requires e (c.slot-of-then-back-eq1.ensures ∙ ap (slot l.v (l.k / 8)) i)
-    (c.saturating-sub.ensures ∙ ap (λ z. (8 * (l.k / 8) + z) * l.g - get_or c.args.gaps.now l.v 0) i) in
+    let r = both c.args.gaps.now c.args.t c.args.y _ _ _ _ c.requires e (c.slot_of-then-back-eq1.ensures ∙ ap (slot l.v (l.k / 8)) i)
+    (c.saturating_sub.ensures ∙ ap (λ z. (8 * (l.k / 8) + z) * l.g - get_or c.args.gaps.now l.v 0) i) in
     record { slot = r.0; time = r.1; few = r.2 }
 
-pub overflow-mul-g : goal.overflow-mul-g
-overflow-mul-g c = let s = spacing_small c.loop-v.g c.loop-v.v (omega arith) c.loop-v.invariant.2 in omega arith
+pub overflow_mul-g : goal.overflow_mul-g
+overflow_mul-g c = let s = spacing_small c.loop-v.g c.loop-v.v (omega arith) c.loop-v.invariant.2 in omega arith
 
 pub loop-v-preserved : goal.loop-v-preserved
 loop-v-preserved c =

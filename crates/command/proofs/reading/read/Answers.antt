@@ -6,24 +6,24 @@ use Rattle.command.specs.Taken.{left}
 use Rattle.command.proofs.Whole.{command_none, command_at, command_is, rest_is, refused_none, refused_left, accepted}
 use Rattle.command.proofs.reading.read.Goals as goal
 
-pub returns-in-default : goal.returns-in-default
-returns-in-default c = let t = c.args.text.now in (refl, refused_none t (command_none t c.in-default.ensures))
+pub returns-in_default : goal.returns-in_default
+returns-in_default c = let t = c.args.text.now in (refl, refused_none t (command_none t c.in_default.ensures))
 
-pub returns-in-default-command-of : goal.returns-in-default-command-of
-returns-in-default-command-of c =
-    let t = c.args.text.now in (refl, refused_none t (command_at t c.in-Some.ensures ∙ c.in-default-command-of.ensures.takes))
+pub returns-in_default-command_of : goal.returns-in_default-command_of
+returns-in_default-command_of c =
+    let t = c.args.text.now in (refl, refused_none t (command_at t c.in-Some.ensures ∙ c.in_default-command_of.ensures.takes))
 
-pub returns-in-default-default : goal.returns-in-default-default
-returns-in-default-default c =
+pub returns-in_default-default : goal.returns-in_default-default
+returns-in_default-default c =
     let t = c.args.text.now in
-    let u = left c.command-of.new.self in
-    let x = told (left c.first.new.self) c.in-Some-command-of.command in
-    (refl, refused_left t u (command_is t x u c.in-Some.ensures c.in-Some-command-of.ensures.takes) (omega (arith, ltb-true, ltb-false)))
+    let u = left c.command_of.new.self in
+    let x = told (left c.first.new.self) c.in-Some-command_of.command in
+    (refl, refused_left t u (command_is t x u c.in-Some.ensures c.in-Some-command_of.ensures.takes) (omega (arith, ltb-true, ltb-false)))
 
 pub returns : goal.returns
 returns c =
     let t = c.args.text.now in
-    let x = c.in-Some-command-of.command in
-    let v = left c.command-of.new.self in
-    let says = accepted t v (command_is t (told (left c.first.new.self) x) v c.in-Some.ensures c.in-Some-command-of.ensures.takes) (omega (arith, ltb-true, ltb-false)) in
-    subst (λ (u : List ℕ). Says t (told u x) × Counts u x) (rest_is t c.in-Some.ensures) (says, c.in-Some-command-of.ensures.counted)
+    let x = c.in-Some-command_of.command in
+    let v = left c.command_of.new.self in
+    let says = accepted t v (command_is t (told (left c.first.new.self) x) v c.in-Some.ensures c.in-Some-command_of.ensures.takes) (omega (arith, ltb-true, ltb-false)) in
+    subst (λ (u : List ℕ). Says t (told u x) × Counts u x) (rest_is t c.in-Some.ensures) (says, c.in-Some-command_of.ensures.counted)

@@ -48,5 +48,5 @@ pub returns-in-Ok : goal.returns-in-Ok
 unfolding spelled
 returns-in-Ok c =
     rw c.in-Break.is
-    (puts_then c.put-break.result (vec_items c.args.out.now) (8 ∷ []) (break_spelled (break_of c.in-Break.stop)) (vec_items c.put.new.out) (vec_items c.put-break.new.out) c.in-Ok.ensures
-    c.put-break.ensures)
+    (puts_then c.put_break.result (vec_items c.args.out.now) (8 ∷ []) (break_spelled (break_of c.in-Break.stop)) (vec_items c.put.new.out) (vec_items c.put_break.new.out) c.in-Ok.ensures
+    c.put_break.ensures)

@@ -6,4 +6,4 @@ use Rattle.command.proofs.writing.write_give.Goals as goal
 
 pub returns : goal.returns
 unfolding spelled
-returns c = written_two (2 ∷ eight (length c.args.numbers.now)) (flat eight c.args.numbers.now) c.in-Ok-put-words.ensures c.in-Ok.ensures c.new-text.ensures.items
+returns c = written_two (2 ∷ eight (length c.args.numbers.now)) (flat eight c.args.numbers.now) c.in-Ok-put_words.ensures c.in-Ok.ensures c.new-text.ensures.items

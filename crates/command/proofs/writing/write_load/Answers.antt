@@ -9,5 +9,5 @@ use Rattle.command.proofs.writing.write_load.Goals as goal
 pub returns : goal.returns
 unfolding spelled
 returns c =
-    written_two (1 ∷ eight (length c.args.program.now)) (flat instr_written c.args.program.now) c.in-Ok-put-instrs.ensures c.in-Ok.ensures c.new-text.ensures.items
+    written_two (1 ∷ eight (length c.args.program.now)) (flat instr_written c.args.program.now) c.in-Ok-put_instrs.ensures c.in-Ok.ensures c.new-text.ensures.items
     ∙ ap (λ l. 1 ∷ l) (counted_each instr_spelled code c.args.program.now)

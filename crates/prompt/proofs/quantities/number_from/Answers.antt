@@ -2,19 +2,19 @@ use Rattle.std.proofs.Common.{◌≡◌, ℕ, ◌≤◌, sym, ◌∙◌, subst, 
 use Rattle.prompt.proofs.Digits.{digits_stop, digits_more, digits_all}
 use Rattle.prompt.proofs.quantities.number_from.Goals as goal
 
-pub returns-in-err-n : goal.returns-in-err-n
-returns-in-err-n c =
+pub returns-in_err-n : goal.returns-in_err-n
+returns-in_err-n c =
     record {
       value =
-          c.from-residual.ensures
-          ∙ (sym (digits_stop _ _ c.loop-b.n c.args.text.now c.loop-b.b-index (omega arith) (sym c.in-err-n.ensures.value)) ∙ c.loop-b.invariant.0);
+          c.from_residual.ensures
+          ∙ (sym (digits_stop _ _ c.loop-b.n c.args.text.now c.loop-b.b-index (omega arith) (sym c.in_err-n.ensures.value)) ∙ c.loop-b.invariant.0);
       bound = search rules;
     }
 
 pub loop-b-preserved : goal.loop-b-preserved
 loop-b-preserved c = (
-  sym (digits_more _ _ c.loop-b.n c.args.text.now c.loop-b.b-index (omega arith) (sym c.in-ok-n.ensures.value)) ∙ c.loop-b.invariant.0,
-  c.in-ok-n.ensures.bound,
+  sym (digits_more _ _ c.loop-b.n c.args.text.now c.loop-b.b-index (omega arith) (sym c.in_ok-n.ensures.value)) ∙ c.loop-b.invariant.0,
+  c.in_ok-n.ensures.bound,
 )
 
 pub returns : goal.returns

@@ -5,6 +5,6 @@ use Rattle.prompt.proofs.verbs.begins.Goals as goal
 
 pub returns : goal.returns
 returns c =
-    same_from_decides c.starts-with.result _
-    (slice_eq-Decides Decides-eqb _ _ c.starts-with.result c.starts-with.ensures.value)
+    same_from_decides c.starts_with.result _
+    (slice_eq-Decides Decides-eqb _ _ c.starts_with.result c.starts_with.ensures.value)
     (bytes_eq-Decides c.args.word.now (take (length c.args.word.now) c.args.text.now))

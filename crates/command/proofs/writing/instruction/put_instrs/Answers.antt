@@ -5,7 +5,7 @@ use Rattle.command.proofs.writing.instruction.put_instrs.Goals as goal
 
 pub loop-instr-preserved : goal.loop-instr-preserved
 loop-instr-preserved c =
-    list_more instr_written c.args.program.now c.loop-instr.instr-index (vec_items c.args.out.now) c.loop-instr.invariant c.instr-item.result c.instr-item.result (vec_items c.put-instr.new.out) c.loop-instr-test.true c.instr-item.is
+    list_more instr_written c.args.program.now c.loop-instr.instr-index (vec_items c.args.out.now) c.loop-instr.invariant c.instr-item.result c.instr-item.result (vec_items c.put_instr.new.out) c.loop-instr-test.true c.instr-item.is
     c.in-Ok.ensures
 
 pub returns : goal.returns

@@ -9,8 +9,8 @@ pub returns : goal.returns
 returns c =
     let t = c.args.test in
     let old = vec_items c.args.out.now in
-    let new = vec_items c.put-with-2.new.out in
+    let new = vec_items c.put_with-2.new.out in
     let a = c.kind.result ∷ eight c.which.result in
-    let b = c.comparison-number.result ∷ eight t.value in
-    let e : a ++ b ≡ test_spelled (test_of t) = λ i. c.kind.ensures i ∷ (eight (c.which.ensures i) ++ c.comparison-number.ensures i ∷ eight t.value) in
-    puts_as c.put-with-2.result old (a ++ b) (test_spelled (test_of t)) new e (puts_then c.put-with-2.result old a b (vec_items c.put-with.new.out) new c.in-Ok.ensures c.put-with-2.ensures)
+    let b = c.comparison_number.result ∷ eight t.value in
+    let e : a ++ b ≡ test_spelled (test_of t) = λ i. c.kind.ensures i ∷ (eight (c.which.ensures i) ++ c.comparison_number.ensures i ∷ eight t.value) in
+    puts_as c.put_with-2.result old (a ++ b) (test_spelled (test_of t)) new e (puts_then c.put_with-2.result old a b (vec_items c.put_with.new.out) new c.in-Ok.ensures c.put_with-2.ensures)

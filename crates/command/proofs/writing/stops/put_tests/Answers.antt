@@ -5,7 +5,7 @@ use Rattle.command.proofs.writing.stops.put_tests.Goals as goal
 
 pub loop-test-preserved : goal.loop-test-preserved
 loop-test-preserved c =
-    list_more test_written c.args.tests.now c.loop-test.test-index (vec_items c.args.out.now) c.loop-test.invariant c.test-item.result c.test-item.result (vec_items c.put-test.new.out) c.loop-test-test.true c.test-item.is
+    list_more test_written c.args.tests.now c.loop-test.test-index (vec_items c.args.out.now) c.loop-test.invariant c.test-item.result c.test-item.result (vec_items c.put_test.new.out) c.loop-test-test.true c.test-item.is
     c.in-Ok.ensures
 
 pub returns : goal.returns

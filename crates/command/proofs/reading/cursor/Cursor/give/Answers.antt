@@ -10,5 +10,5 @@ unfolding numbers_in
 returns c =
     let t = left c.args.self.now in
     let e = c.in-Some.ensures.takes in
-    let u = left c.skip-words.new.self in
-    record { takes = counted_as word 4096 t e (λ xs. give xs) u c.in-Some-skip-words.ensures; counted = counted_length word 4096 t e u c.in-Some-skip-words.ensures }
+    let u = left c.skip_words.new.self in
+    record { takes = counted_as word 4096 t e (λ xs. give xs) u c.in-Some-skip_words.ensures; counted = counted_length word 4096 t e u c.in-Some-skip_words.ensures }

@@ -10,5 +10,5 @@ unfolding program_in
 returns c =
     let t = left c.args.self.now in
     let e = c.in-Some.ensures.takes in
-    let u = left c.skip-instrs.new.self in
-    record { takes = counted_as instr 4096 t e (λ xs. load xs) u c.in-Some-skip-instrs.ensures; counted = counted_length instr 4096 t e u c.in-Some-skip-instrs.ensures }
+    let u = left c.skip_instrs.new.self in
+    record { takes = counted_as instr 4096 t e (λ xs. load xs) u c.in-Some-skip_instrs.ensures; counted = counted_length instr 4096 t e u c.in-Some-skip_instrs.ensures }

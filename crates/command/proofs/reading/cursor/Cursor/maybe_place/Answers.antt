@@ -7,10 +7,10 @@ use Rattle.command.proofs.reading.cursor.Cursor.maybe_place.Goals as goal
 pub returns-then-count-eq0 : goal.returns-then-count-eq0
 returns-then-count-eq0 c = counted_zero place 1 (left c.args.self.now) c.in-Some.ensures.takes c.if-count-eq0.true
 
-pub returns-in-default-place : goal.returns-in-default-place
-returns-in-default-place c =
+pub returns-in_default-place : goal.returns-in_default-place
+returns-in_default-place c =
     let h = c.in-Some.ensures.within in
-    (counted_one_none place 1 (left c.args.self.now) c.in-Some.ensures.takes (omega arith) c.in-default-place.ensures)
+    (counted_one_none place 1 (left c.args.self.now) c.in-Some.ensures.takes (omega arith) c.in_default-place.ensures)
 
 pub returns : goal.returns
 returns c =

@@ -14,22 +14,22 @@ fits_eight i n b l h k =
     let p : 256 ^ (i + 1) ≤ 256 ^ 8 = pow-le-pow_right {n = 256} (omega arith) {i = i + 1} {j = 8} (omega arith) in
     omega (arith, next_power i n b h k)
 
-pub returns-in-default : goal.returns-in-default
-returns-in-default c =
-    let e : 8 - c.loop-i.-i ≡ suc (7 - c.loop-i.-i) = omega arith in
-    (sym c.loop-i.invariant.0 ∙ (ap (λ k. bytes k c.loop-i.number (left c.loop-i.self)) e ∙ bytes_none _ _ (left c.loop-i.self) c.in-default.ensures.takes))
+pub returns-in_default : goal.returns-in_default
+returns-in_default c =
+    let e : 8 - c.loop-i._i ≡ suc (7 - c.loop-i._i) = omega arith in
+    (sym c.loop-i.invariant.0 ∙ (ap (λ k. bytes k c.loop-i.number (left c.loop-i.self)) e ∙ bytes_none _ _ (left c.loop-i.self) c.in_default.ensures.takes))
 
-pub overflow-mul-number : goal.overflow-mul-number
-overflow-mul-number c = let h = fits_eight c.loop-i.-i c.loop-i.number 0 c.loop-i-test.true c.loop-i.invariant.1 (omega arith) in omega arith
+pub overflow_mul-number : goal.overflow_mul-number
+overflow_mul-number c = let h = fits_eight c.loop-i._i c.loop-i.number 0 c.loop-i-test.true c.loop-i.invariant.1 (omega arith) in omega arith
 
-pub overflow-add-number : goal.overflow-add-number
-overflow-add-number c =
-    let h = fits_eight c.loop-i.-i c.loop-i.number c.in-Some.byte c.loop-i-test.true c.loop-i.invariant.1 c.in-Some.ensures.within in
+pub overflow_add-number : goal.overflow_add-number
+overflow_add-number c =
+    let h = fits_eight c.loop-i._i c.loop-i.number c.in-Some.byte c.loop-i-test.true c.loop-i.invariant.1 c.in-Some.ensures.within in
     omega arith
 
 pub loop-i-preserved : goal.loop-i-preserved
 loop-i-preserved c =
-    let e : 8 - c.loop-i.-i ≡ suc (8 - (c.loop-i.-i + 1)) = omega arith in (
+    let e : 8 - c.loop-i._i ≡ suc (8 - (c.loop-i._i + 1)) = omega arith in (
       sym (bytes_more _ _ (left c.loop-i.self) c.in-Some.ensures.takes) ∙ (ap (λ k. bytes k c.loop-i.number (left c.loop-i.self)) (sym e) ∙ c.loop-i.invariant.0),
       next_power _ _ _ c.loop-i.invariant.1 c.in-Some.ensures.within,
     )

@@ -4,4 +4,4 @@ use Rattle.command.specs.Taken.{left}
 use Rattle.command.proofs.reading.cursor.Cursor.number.Given as goal
 
 abbrev pub invariant-loop-i : goal.invariant-loop-i
-invariant-loop-i l = (bytes (8 - l.-i) l.number (left l.self) ≡ bytes 8 0 (left l.initial.self)) × (l.number < 256 ^ l.-i)
+invariant-loop-i l = (bytes (8 - l._i) l.number (left l.self) ≡ bytes 8 0 (left l.initial.self)) × (l.number < 256 ^ l._i)

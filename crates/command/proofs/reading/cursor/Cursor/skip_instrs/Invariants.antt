@@ -6,4 +6,4 @@ use Rattle.command.proofs.Many.{Left}
 use Rattle.command.proofs.reading.cursor.Cursor.skip_instrs.Given as goal
 
 abbrev pub invariant-loop-i : goal.invariant-loop-i
-invariant-loop-i l = (done : List Instr) × Left instr l.count (left l.initial.self) (l.count - l.-i) done (left l.self)
+invariant-loop-i l = (done : List Instr) × Left instr l.count (left l.initial.self) (l.count - l._i) done (left l.self)

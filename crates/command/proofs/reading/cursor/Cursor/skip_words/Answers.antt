@@ -10,14 +10,14 @@ loop-i-init c =
     let t = left c.args.self.now in
     ([], subst (λ (k : ℕ). Left word c.args.count t k [] t) z (left_start word c.args.count t))
 
-pub returns-in-default : goal.returns-in-default
-returns-in-default c =
-    let e : c.args.count - c.loop-i.-i ≡ suc (c.args.count - (c.loop-i.-i + 1)) = omega arith in
-    (left_none word _ _ _ _ c.loop-i.invariant.0 (left c.loop-i.self) e c.loop-i.invariant.1 c.in-default.ensures)
+pub returns-in_default : goal.returns-in_default
+returns-in_default c =
+    let e : c.args.count - c.loop-i._i ≡ suc (c.args.count - (c.loop-i._i + 1)) = omega arith in
+    (left_none word _ _ _ _ c.loop-i.invariant.0 (left c.loop-i.self) e c.loop-i.invariant.1 c.in_default.ensures)
 
 pub loop-i-preserved : goal.loop-i-preserved
 loop-i-preserved c =
-    let e : c.args.count - c.loop-i.-i ≡ suc (c.args.count - (c.loop-i.-i + 1)) = omega arith in
+    let e : c.args.count - c.loop-i._i ≡ suc (c.args.count - (c.loop-i._i + 1)) = omega arith in
     (c.loop-i.invariant.0 ++ _ ∷ [], left_more word _ _ _ _ c.loop-i.invariant.0 (left c.loop-i.self) e c.loop-i.invariant.1 c.in-Some.ensures)
 
 pub returns : goal.returns

@@ -2,21 +2,21 @@ use Rattle.std.proofs.Common.{rules}
 use Rattle.command.specs.Reader.{break}
 use Rattle.command.proofs.reading.cursor.Cursor.stop.Goals as goal
 
-pub returns-in-default : goal.returns-in-default
+pub returns-in_default : goal.returns-in_default
 unfolding break
-returns-in-default c = search rules
+returns-in_default c = search rules
 
-pub returns-in-default-up-to : goal.returns-in-default-up-to
+pub returns-in_default-up_to : goal.returns-in_default-up_to
 unfolding break
-returns-in-default-up-to c = search rules
+returns-in_default-up_to c = search rules
 
-pub returns-in-default-tests : goal.returns-in-default-tests
+pub returns-in_default-tests : goal.returns-in_default-tests
 unfolding break
-returns-in-default-tests c = search rules
+returns-in_default-tests c = search rules
 
-pub returns-in-default-maybe-place : goal.returns-in-default-maybe-place
+pub returns-in_default-maybe_place : goal.returns-in_default-maybe_place
 unfolding break
-returns-in-default-maybe-place c = search rules
+returns-in_default-maybe_place c = search rules
 
 pub returns : goal.returns
 unfolding break

@@ -7,10 +7,10 @@ use Rattle.command.specs.Taken.{left}
 use Rattle.command.proofs.Many.{Left, left_more, left_none, left_end, each_set}
 use Rattle.command.proofs.reading.cursor.Cursor.tests.Goals as goal
 
-pub returns-in-default : goal.returns-in-default
-returns-in-default c =
+pub returns-in_default : goal.returns-in_default
+returns-in_default c =
     let e : c.args.count - c.loop-i.i ≡ suc (c.args.count - (c.loop-i.i + 1)) = omega arith in
-    (left_none test _ _ _ _ _ (left c.loop-i.self) e c.loop-i.invariant.1 c.in-default.ensures)
+    (left_none test _ _ _ _ _ (left c.loop-i.self) e c.loop-i.invariant.1 c.in_default.ensures)
 
 pub loop-i-preserved : goal.loop-i-preserved
 loop-i-preserved c =
