@@ -1,5 +1,6 @@
 // What the processor is told and what it tells.
 #![tactic(auto)]
+
 pub mod answers;
 pub mod processor;
 pub mod statements;

@@ -13,8 +13,8 @@ pub returns-in_default-command_of : goal.returns-in_default-command_of
 returns-in_default-command_of c =
     let t = c.args.text.now in (refl, refused_none t (command_at t c.in-Some.ensures ∙ c.in_default-command_of.ensures.takes))
 
-pub returns-in_default-default : goal.returns-in_default-default
-returns-in_default-default c =
+pub returns-in_default-rest : goal.returns-in_default-rest
+returns-in_default-rest c =
     let t = c.args.text.now in
     let u = left c.command_of.new.self in
     let x = told (left c.first.new.self) c.in-Some-command_of.command in
