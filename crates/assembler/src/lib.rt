@@ -5,6 +5,7 @@
 // hexadecimal after 0x. A line may begin with a label, as `large:`, that names the place of the next instruction, and a place that is
 // wanted is a label or a number. The words equal, unequal, below and not, behind `jump`, are no labels.
 #![tactic(auto)]
+
 mod cursor;
 mod instruction;
 mod labels;

@@ -1,5 +1,6 @@
 // The debugger as a machine: its memory, its phases, one step, and that it keeps its promises.
 #![tactic(auto)]
+
 mod acts;
 mod beginning;
 mod cells;

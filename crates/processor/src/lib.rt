@@ -1,5 +1,6 @@
 // A processor of our own, with 256 slots for kept states.
 #![tactic(auto)]
+
 pub mod acting;
 pub mod arith;
 mod copying;

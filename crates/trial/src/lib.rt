@@ -4,6 +4,7 @@
 // Each command is proved to end, to show and to leave the debugger as the definition of the plain one says, and its grant of steps too; see `Turns` and `Loads`
 // in specs/Turns.antt. Where memory runs out, which an AllocError says, nothing is promised of the debugger but that it is safe to use.
 #![tactic(auto)]
+
 mod arith;
 mod breaking;
 pub mod debugger;

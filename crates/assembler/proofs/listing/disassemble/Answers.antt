@@ -11,9 +11,9 @@ pub loop-instr-preserved : goal.loop-instr-preserved
 loop-instr-preserved c =
     let e = listing_more c.args.program.now c.loop-instr.instr-index c.instr-item.result c.loop-instr-test.true c.instr-item.is in
     let i = c.loop-instr.invariant in
-    let f = c.in-ok-push-str.ensures.bytes in
-    let v = c.as-str.ensures.value in
-    let m = c.in-ok-line.ensures.ok in
+    let f = c.in_ok-push_str.ensures.bytes in
+    let v = c.as_str.ensures.value in
+    let m = c.in_ok-line.ensures.ok in
     search rules
 
 pub returns : goal.returns

@@ -9,8 +9,8 @@ pub loop-b-preserved : goal.loop-b-preserved
 loop-b-preserved c =
     let e = each_more printable c.args.bytes.now c.loop-b.b-index c.loop-b-test.true in
     let i = c.loop-b.invariant in
-    let f = c.in-ok-push.ensures.bytes in
-    let g = c.in-ok-push.ensures.ascii in
+    let f = c.in_ok-push.ensures.bytes in
+    let g = c.in_ok-push.ensures.ascii in
     search rules
 
 pub returns : goal.returns

@@ -3,11 +3,11 @@ use Rattle.command.specs.Told.{numbers_in}
 use Rattle.machine.proofs.Plans.{gives, gives_none}
 use Rattle.machine.proofs.beginning.give.Goals as goal
 
-pub returns-then-fed-gt-MOST-FED : goal.returns-then-fed-gt-MOST-FED
-returns-then-fed-gt-MOST-FED c =
-    gives_none c.args.memory.now c.args.out.now (numbers_in (drop 1 c.args.text.now)) c.args.count c.requires.counts (omega (arith, c.saturating-add-fed.ensures, c.if-fed-gt-MOST-FED.true))
+pub returns-then-fed-gt-MOST_FED : goal.returns-then-fed-gt-MOST_FED
+returns-then-fed-gt-MOST_FED c =
+    gives_none c.args.memory.now c.args.out.now (numbers_in (drop 1 c.args.text.now)) c.args.count c.requires.counts (omega (arith, c.saturating_add-fed.ensures, c.if-fed-gt-MOST_FED.true))
 
 pub returns : goal.returns
 returns c =
-    gives c.args.memory.now c.args.out.now _ (numbers_in (drop 1 c.args.text.now)) c.number.result c.args.count c.saturating-add-fed.result c.number.ensures c.requires.counts
-    (omega (arith, c.saturating-add-fed.ensures, c.if-fed-gt-MOST-FED.false)) c.if-fed-gt-MOST-FED.false c.put-given.ensures
+    gives c.args.memory.now c.args.out.now _ (numbers_in (drop 1 c.args.text.now)) c.number.result c.args.count c.saturating_add-fed.result c.number.ensures c.requires.counts
+    (omega (arith, c.saturating_add-fed.ensures, c.if-fed-gt-MOST_FED.false)) c.if-fed-gt-MOST_FED.false c.put_given.ensures

@@ -5,14 +5,14 @@ use Rattle.machine.proofs.Texts.{load_text, load_few}
 use Rattle.machine.proofs.Plans.{loads}
 use Rattle.machine.proofs.beginning.load.Goals as goal
 
-pub slice-bounds-put-front-count : goal.slice-bounds-put-front-count
-slice-bounds-put-front-count c = let t = c.args.text.now in let h = (load_text t (program_in (drop 1 t)) c.requires.says).0 in omega arith
+pub slice_bounds-put_front-count : goal.slice_bounds-put_front-count
+slice_bounds-put_front-count c = let t = c.args.text.now in let h = (load_text t (program_in (drop 1 t)) c.requires.says).0 in omega arith
 
-pub slice-bounds-put-front-start : goal.slice-bounds-put-front-start
-slice-bounds-put-front-start c = let t = c.args.text.now in let h = (load_text t (program_in (drop 1 t)) c.requires.says).0 in omega arith
+pub slice_bounds-put_front-start : goal.slice_bounds-put_front-start
+slice_bounds-put_front-start c = let t = c.args.text.now in let h = (load_text t (program_in (drop 1 t)) c.requires.says).0 in omega arith
 
-pub put-front-requires : goal.put-front-requires
-put-front-requires c =
+pub put_front-requires : goal.put_front-requires
+put_front-requires c =
     let t = c.args.text.now in
     let e = ap length (load_text t (program_in (drop 1 t)) c.requires.says).1 in
     omega (arith, load_few t (program_in (drop 1 t)) c.requires.says, c.requires.row)
@@ -22,4 +22,4 @@ returns c =
     let t = c.args.text.now in
     let is = program_in (drop 1 t) in
     loads c.args.memory.now c.args.out.now _ is c.number.result c.args.count c.number.ensures c.requires.counts
-    (c.put-front.ensures ∙ ap (λ bs. on_row bs c.args.out.now) (load_text t is c.requires.says).1)
+    (c.put_front.ensures ∙ ap (λ bs. on_row bs c.args.out.now) (load_text t is c.requires.says).1)

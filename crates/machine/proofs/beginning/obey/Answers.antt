@@ -3,7 +3,7 @@ use Rattle.machine.proofs.beginning.obey.Goals as goal
 
 pub returns-in-Forward : goal.returns-in-Forward
 returns-in-Forward c =
-    obeys_forward c.args.memory.now c.args.out.now c.args.order c.in-Forward.n _ _ _ c.in-Forward.is c.requires.fits c.requires.cells c.set-off.ensures
+    obeys_forward c.args.memory.now c.args.out.now c.args.order c.in-Forward.n _ _ _ c.in-Forward.is c.requires.fits c.requires.cells c.set_off.ensures
 
 pub returns-in-Where : goal.returns-in-Where
 returns-in-Where c = obeys_where c.args.memory.now c.args.out.now c.args.order c.number.result c.in-Where.is c.number.ensures
@@ -14,14 +14,14 @@ returns-in-Registers c =
 
 pub returns-in-Words : goal.returns-in-Words
 returns-in-Words c =
-    obeys_words c.args.memory.now c.args.out.now c.args.order c.in-Words.from c.in-Words.count c.words-there.result c.number-in-Words.result _
-    c.in-Words.is c.words-there.ensures c.number-in-Words.ensures c.put-front.ensures
+    obeys_words c.args.memory.now c.args.out.now c.args.order c.in-Words.from c.in-Words.count c.words_there.result c.number-in-Words.result _
+    c.in-Words.is c.words_there.ensures c.number-in-Words.ensures c.put_front.ensures
 
 pub returns-in-Outs : goal.returns-in-Outs
 returns-in-Outs c =
     obeys_outs c.args.memory.now c.args.out.now c.args.order c.in-Outs.from c.in-Outs.count c.number-in-Outs.result _
-    c.in-Outs.is c.number-in-Outs.ensures c.put-front-in-Outs.ensures
+    c.in-Outs.is c.number-in-Outs.ensures c.put_front-in-Outs.ensures
 
-pub returns-in-default : goal.returns-in-default
-returns-in-default c =
-    obeys_not c.args.memory.now c.args.out.now c.args.order c.in-default.not-Forward c.in-default.not-Where c.in-default.not-Registers c.in-default.not-Words c.in-default.not-Outs
+pub returns-in_default : goal.returns-in_default
+returns-in_default c =
+    obeys_not c.args.memory.now c.args.out.now c.args.order c.in_default.not-Forward c.in_default.not-Where c.in_default.not-Registers c.in_default.not-Words c.in_default.not-Outs

@@ -6,15 +6,15 @@ pub returns-then-not-reached : goal.returns-then-not-reached
 returns-then-not-reached c =
     let m = c.args.memory.now in
     comes_on m c.args.out.now _ _ _ c.args.reached c.args.here c.args.left c.if-not-reached.true
-    (comes m c.args.out.now _ _ _ c.args.here c.args.left c.ranges.here.fits c.ranges.left.fits c.requires.cells c.set-off.ensures)
+    (comes m c.args.out.now _ _ _ c.args.here c.args.left c.ranges.here.fits c.ranges.left.fits c.requires.cells c.set_off.ensures)
 
-pub returns-in-default : goal.returns-in-default
-returns-in-default c =
+pub returns-in_default : goal.returns-in_default
+returns-in_default c =
     let m = c.args.memory.now in
-    comes_past m c.args.out.now _ _ _ c.args.reached c.args.here c.args.left c.if-not-reached.false c.in-default.ensures.slot
-    (comes m c.args.out.now _ _ _ c.args.here c.args.left c.ranges.here.fits c.ranges.left.fits c.requires.cells c.set-off-in-default.ensures)
+    comes_past m c.args.out.now _ _ _ c.args.reached c.args.here c.args.left c.if-not-reached.false c.in_default.ensures.slot
+    (comes m c.args.out.now _ _ _ c.args.here c.args.left c.ranges.here.fits c.ranges.left.fits c.requires.cells c.set_off-in_default.ensures)
 
 pub returns : goal.returns
 returns c =
-    comes_kept c.args.memory.now c.args.out.now _ c.args.out.now (Keeps c.in-Some.slot) c.args.reached c.args.here c.args.left c.number.result c.levels-reached.result c.in-Some.slot
-    c.if-not-reached.false c.ranges.here.fits c.ranges.left.fits c.number.ensures c.levels-reached.ensures.reached c.in-Some.ensures.slot c.shut-gaps.ensures
+    comes_kept c.args.memory.now c.args.out.now _ c.args.out.now (Keeps c.in-Some.slot) c.args.reached c.args.here c.args.left c.number.result c.levels_reached.result c.in-Some.slot
+    c.if-not-reached.false c.ranges.here.fits c.ranges.left.fits c.number.ensures c.levels_reached.ensures.reached c.in-Some.ensures.slot c.shut_gaps.ensures

@@ -6,4 +6,4 @@ returns-then-left-eq0 c = sets_off_none c.args.memory.now c.args.out.now _ _ _ c
 
 pub returns : goal.returns
 returns c =
-    sets_off c.args.memory.now c.args.out.now _ c.number.result c.stride.result c.number.ensures c.if-left-eq0.false c.stride.ensures c.put-front.ensures
+    sets_off c.args.memory.now c.args.out.now _ c.number.result c.stride.result c.number.ensures c.if-left-eq0.false c.stride.ensures c.put_front.ensures

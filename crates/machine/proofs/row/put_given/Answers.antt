@@ -5,11 +5,11 @@ use Rattle.machine.specs.Entry.{on_row}
 use Rattle.machine.proofs.Texts.{give_text, give_few, word_never, word_taken}
 use Rattle.machine.proofs.row.put_given.Goals as goal
 
-pub slice-bounds-cursor-count : goal.slice-bounds-cursor-count
-slice-bounds-cursor-count c = let t = c.args.text.now in let h = (give_text t (numbers_in (drop 1 t)) c.requires.says).0 in omega arith
+pub slice_bounds-cursor-count : goal.slice_bounds-cursor-count
+slice_bounds-cursor-count c = let t = c.args.text.now in let h = (give_text t (numbers_in (drop 1 t)) c.requires.says).0 in omega arith
 
-pub slice-bounds-cursor-start : goal.slice-bounds-cursor-start
-slice-bounds-cursor-start c = let t = c.args.text.now in let h = (give_text t (numbers_in (drop 1 t)) c.requires.says).0 in omega arith
+pub slice_bounds-cursor-start : goal.slice_bounds-cursor-start
+slice_bounds-cursor-start c = let t = c.args.text.now in let h = (give_text t (numbers_in (drop 1 t)) c.requires.says).0 in omega arith
 
 pub loop-i-init : goal.loop-i-init
 loop-i-init c = let t = c.args.text.now in ((give_text t (numbers_in (drop 1 t)) c.requires.says).1, refl)
@@ -17,10 +17,10 @@ loop-i-init c = let t = c.args.text.now in ((give_text t (numbers_in (drop 1 t))
 pub unreachable-requires : goal.unreachable-requires
 unreachable-requires c =
     let t = c.args.text.now in
-    word_never t (numbers_in (drop 1 t)) c.loop-i.i _ c.requires.says (omega (arith, c.requires.counts, c.loop-i-test.true)) c.loop-i.invariant.0 c.in-default.ensures
+    word_never t (numbers_in (drop 1 t)) c.loop-i.i _ c.requires.says (omega (arith, c.requires.counts, c.loop-i-test.true)) c.loop-i.invariant.0 c.in_default.ensures
 
-pub offset-bounds-row-i : goal.offset-bounds-row-i
-offset-bounds-row-i c = let t = c.args.text.now in let h = give_few t (numbers_in (drop 1 t)) c.requires.says in omega (arith, c.requires.counts, c.requires.room)
+pub offset_bounds-row-i : goal.offset_bounds-row-i
+offset_bounds-row-i c = let t = c.args.text.now in let h = give_few t (numbers_in (drop 1 t)) c.requires.says in omega (arith, c.requires.counts, c.requires.room)
 
 pub bounds-row-i : goal.bounds-row-i
 bounds-row-i c = let t = c.args.text.now in let h = give_few t (numbers_in (drop 1 t)) c.requires.says in omega (arith, c.requires.counts, c.requires.room, c.loop-i-test.true, c.loop-i.auto.row)

@@ -18,7 +18,7 @@ returns-in-Some-arrival c =
 
 pub returns-in-None-arrival : goal.returns-in-None-arrival
 returns-in-None-arrival c =
-    next_kept c.args.memory.now c.args.out.now c.args.phase _ _ _ c.in-Keeping.is c.in-None-arrival.ensures.slot c.set-off.ensures
+    next_kept c.args.memory.now c.args.out.now c.args.phase _ _ _ c.in-Keeping.is c.in-None-arrival.ensures.slot c.set_off.ensures
 
-pub returns-in-default : goal.returns-in-default
-returns-in-default c = next_refused c.args.memory.now c.args.out.now c.args.phase c.in-default.not-Ending c.in-default.not-Beginning c.in-default.not-Keeping
+pub returns-in_default : goal.returns-in_default
+returns-in_default c = next_refused c.args.memory.now c.args.out.now c.args.phase c.in_default.not-Ending c.in_default.not-Beginning c.in_default.not-Keeping

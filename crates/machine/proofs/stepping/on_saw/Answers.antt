@@ -3,17 +3,17 @@ use Rattle.machine.proofs.stepping.on_saw.Goals as goal
 
 pub returns-in-Placing : goal.returns-in-Placing
 returns-in-Placing c =
-    saw_place c.args.memory.now c.args.out.now c.args.seen.now c.args.phase _ _ c.number.result c.number-at.result c.number-at-in-Placing.result
-    c.in-Placing.is c.number.ensures c.number-at.ensures c.number-at-in-Placing.ensures c.show.ensures
+    saw_place c.args.memory.now c.args.out.now c.args.seen.now c.args.phase _ _ c.number.result c.number_at.result c.number_at-in-Placing.result
+    c.in-Placing.is c.number.ensures c.number_at.ensures c.number_at-in-Placing.ensures c.show.ensures
 
-pub returns-in-default : goal.returns-in-default
-returns-in-default c = saw_refused c.args.memory.now c.args.out.now c.args.seen.now c.args.phase c.in-default.not-Placing c.in-default.not-Telling
+pub returns-in_default : goal.returns-in_default
+returns-in_default c = saw_refused c.args.memory.now c.args.out.now c.args.seen.now c.args.phase c.in_default.not-Placing c.in_default.not-Telling
 
-pub returns-then-seen-gt-MOST-SHOWN : goal.returns-then-seen-gt-MOST-SHOWN
-returns-then-seen-gt-MOST-SHOWN c =
-    saw_many c.args.memory.now c.args.out.now c.args.seen.now c.args.phase c.in-Telling.is c.if-seen-gt-MOST-SHOWN.true
+pub returns-then-seen-gt-MOST_SHOWN : goal.returns-then-seen-gt-MOST_SHOWN
+returns-then-seen-gt-MOST_SHOWN c =
+    saw_many c.args.memory.now c.args.out.now c.args.seen.now c.args.phase c.in-Telling.is c.if-seen-gt-MOST_SHOWN.true
 
-pub returns-else-seen-gt-MOST-SHOWN : goal.returns-else-seen-gt-MOST-SHOWN
-returns-else-seen-gt-MOST-SHOWN c =
-    saw_few c.args.memory.now c.args.out.now c.args.seen.now c.args.phase _ _ c.number-in-Telling.result c.in-Telling.is c.if-seen-gt-MOST-SHOWN.false c.number-in-Telling.ensures
+pub returns-else-seen-gt-MOST_SHOWN : goal.returns-else-seen-gt-MOST_SHOWN
+returns-else-seen-gt-MOST_SHOWN c =
+    saw_few c.args.memory.now c.args.out.now c.args.seen.now c.args.phase _ _ c.number-in-Telling.result c.in-Telling.is c.if-seen-gt-MOST_SHOWN.false c.number-in-Telling.ensures
     c.show-in-Telling.ensures

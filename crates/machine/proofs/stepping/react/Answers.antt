@@ -18,7 +18,7 @@ returns-in-Came c =
     carries_at m _ c.args.out.now _ _
     (ap (λ e. planned m (event_meant e)) c.in-Came.is
     ∙ (sym (came_same (get_or m 0 0) m c.in-Came.by c.in-Came.hit c.in-Came.why) ∙ ap (λ p. on_came (phase_number p) m c.in-Came.by c.in-Came.hit c.in-Came.why) (sym c.numbered-phase.ensures)))
-    c.on-came.ensures
+    c.on_came.ensures
 
 pub returns-in-Saw : goal.returns-in-Saw
 unfolding planned cell
@@ -27,7 +27,7 @@ returns-in-Saw c =
     let xs = c.in-Saw.seen.now in
     carries_at m _ c.args.out.now _ _
     (ap (λ e. planned m (event_meant e)) c.in-Saw.is ∙ (sym (saw_same (get_or m 0 0) m xs) ∙ ap (λ p. on_saw (phase_number p) m xs) (sym c.numbered-phase.ensures)))
-    c.on-saw.ensures
+    c.on_saw.ensures
 
 pub returns-in-Next : goal.returns-in-Next
 unfolding planned cell
@@ -35,4 +35,4 @@ returns-in-Next c =
     let m = c.args.memory.now in
     carries_at m _ c.args.out.now _ _
     (ap (λ e. planned m (event_meant e)) c.in-Next.is ∙ (sym (next_same (get_or m 0 0) m) ∙ ap (λ p. on_next (phase_number p) m) (sym c.numbered-phase.ensures)))
-    c.on-next.ensures
+    c.on_next.ensures

@@ -12,10 +12,10 @@ returns-then-memory-ne-CELLS c =
     let e : step_fits c.args.memory.now c.args.kind c.args.out.now ≡ false = grind (arith, nat_tests) in
     step_refused c.args.memory.now c.args.kind c.args.a c.args.b c.args.c c.args.told.now c.args.out.now e
 
-pub returns-in-default : goal.returns-in-default
-returns-in-default c =
+pub returns-in_default : goal.returns-in_default
+returns-in_default c =
     let f = fits_is c.args.memory.now c.args.kind c.args.out.now in
-    let k = c.in-default.ensures in
+    let k = c.in_default.ensures in
     let e : step_fits c.args.memory.now c.args.kind c.args.out.now ≡ false = grind (arith, nat_tests) in
     step_refused c.args.memory.now c.args.kind c.args.a c.args.b c.args.c c.args.told.now c.args.out.now e
 

@@ -18,9 +18,9 @@ unfolding reckon_reply
 too_large k a b hk (inl h) = simp (lt-ltb k 10 hk, le-ltb a _ h)
 too_large k a b hk (inr h) = simp (lt-ltb k 10 hk, lt-ltb a _ h.0, le-ltb b _ h.1)
 
-pub returns-in-default : goal.returns-in-default
+pub returns-in_default : goal.returns-in_default
 unfolding reckon_reply
-returns-in-default c = simp (le-ltb c.args.op 10 c.in-default.ensures)
+returns-in_default c = simp (le-ltb c.args.op 10 c.in_default.ensures)
 
 pub returns-then-a-ge4294967296 : goal.returns-then-a-ge4294967296
 returns-then-a-ge4294967296 c =

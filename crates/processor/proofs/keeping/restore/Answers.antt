@@ -11,12 +11,12 @@ use Rattle.processor.proofs.keeping.restore.Goals.{then-stale, else-stale}
 named : (ps : Pages) (i x : ℕ) → i < 65792 → x ≡ get_or (vec_items ps.tables) i x → x ≡ get_or (vec_items ps.tables) i 0
 named ps i x h e = e ∙ other_default (vec_items ps.tables) i x 0 (omega (arith, ps.rows, ps.tables.ok.0))
 
-pub copy-page-requires : goal.copy-page-requires
-copy-page-requires c =
+pub copy_page-requires : goal.copy_page-requires
+copy_page-requires c =
     let ps = c.args.pages.now in
     let i : c.args.slot * 256 + c.loop-p.p < 65792 = omega arith in
     let e = named ps (c.args.slot * 256 + c.loop-p.p) c.index.result.now i c.index.ensures in
-    (omega arith, omega (arith, e, ps.inside (c.args.slot * 256 + c.loop-p.p) i, c.as-slice.ensures.len, ps.full))
+    (omega arith, omega (arith, e, ps.inside (c.args.slot * 256 + c.loop-p.p) i, c.as_slice.ensures.len, ps.full))
 
 pub loop-p-preserved : goal.loop-p-preserved
 loop-p-preserved c =
@@ -35,7 +35,7 @@ loop-p-preserved c =
           let e = named ps (slot * 256 + p) w.index.result.now i w.index.ensures in
           let f : ℕ → ℕ = λ k. get_or cs (get_or ts (slot * 256 + p) 0 * 256 + k) 0 in
           let copied : (a : ℕ) → get_or c.if-stale.items a 0 ≡ pick (eqb (a / 256) p) (f (a % 256)) (get_or ws a 0) =
-          λ a. ap (λ z. get_or z a 0) w.items-is ∙ w.copy-page.ensures a ∙ ap (λ z. pick (eqb (a / 256) p) (get_or z (w.index.result.now * 256 + a % 256) 0) (get_or ws a 0)) w.as-slice.ensures.value
+          λ a. ap (λ z. get_or z a 0) w.items-is ∙ w.copy_page.ensures a ∙ ap (λ z. pick (eqb (a / 256) p) (get_or z (w.index.result.now * 256 + a % 256) 0) (get_or ws a 0)) w.as_slice.ensures.value
           ∙ ap (λ z. pick (eqb (a / 256) p) (get_or cs (z * 256 + a % 256) 0) (get_or ws a 0)) e in (
             restored_front ws₀ ws slot p hp V c.loop-p.invariant.0 c.loop-p.invariant.1 c.if-stale.items f copied (λ a q. ap (λ z. get_or cs (get_or ts (slot * 256 + z) 0 * 256 + a % 256) 0) (sym q)),
             restored_rest ws₀ ws slot p hp V c.loop-p.invariant.0 c.loop-p.invariant.1 c.if-stale.items f copied,

@@ -28,9 +28,9 @@ loop-i-preserved c =
     let told = told_outs log c.args.put c.args.from (length old) in
     let i = c.loop-i.i in
     let n = how_many log c.args.put c.args.from (length old) in
-    let ht : i < length told = omega (arith, n, c.min-count.ensures, c.saturating-sub.ensures, c.min-there.ensures) in
+    let ht : i < length told = omega (arith, n, c.min-count.ensures, c.saturating_sub.ensures, c.min-there.ensures) in
     let ho : i < length old = omega (arith, c.min-count.ensures) in
-    let hp : c.args.from + i < c.args.put = omega (arith, c.min-count.ensures, c.saturating-sub.ensures, c.min-there.ensures) in
+    let hp : c.args.from + i < c.args.put = omega (arith, c.min-count.ensures, c.saturating_sub.ensures, c.min-there.ensures) in
     ap (λ z. set z i c.from.result) c.loop-i.invariant ∙ row_more told old i c.from.result ht ho (c.from.ensures ∙ sym (told_at log c.args.put c.args.from (length old) i ho hp))
 
 pub returns : goal.returns
@@ -39,7 +39,7 @@ returns c =
     let old = c.args.seen.now in
     let told = told_outs log c.args.put c.args.from (length old) in
     let n = how_many log c.args.put c.args.from (length old) in
-    let count : c.min-count.result ≡ length told = omega (arith, n, c.min-count.ensures, c.saturating-sub.ensures, c.min-there.ensures) in
+    let count : c.min-count.result ≡ length told = omega (arith, n, c.min-count.ensures, c.saturating_sub.ensures, c.min-there.ensures) in
     let e : c.loop-i.i ≡ c.min-count.result = omega arith in
     record {
       count = count;

@@ -16,7 +16,7 @@ saturated xs a k n e =
 pub loop-i-preserved : goal.loop-i-preserved
 loop-i-preserved c =
     below_more _ _
-    (λ k h. let ne : k ≢ c.loop-i.i = omega arith in get_or-set_other c.loop-i.seen c.loop-i.i k c.word-or-zero.result 0 ne ∙ c.loop-i.invariant k h)
+    (λ k h. let ne : k ≢ c.loop-i.i = omega arith in get_or-set_other c.loop-i.seen c.loop-i.i k c.word_or_zero.result 0 ne ∙ c.loop-i.invariant k h)
     (let lt : c.loop-i.i < length c.loop-i.seen = omega arith in
-    get_or-set_same c.loop-i.seen c.loop-i.i c.word-or-zero.result 0 lt ∙ c.word-or-zero.ensures
-    ∙ saturated c.args.items.now (c.args.from + c.loop-i.i) c.saturating-add.result c.requires c.saturating-add.ensures)
+    get_or-set_same c.loop-i.seen c.loop-i.i c.word_or_zero.result 0 lt ∙ c.word_or_zero.ensures
+    ∙ saturated c.args.items.now (c.args.from + c.loop-i.i) c.saturating_add.result c.requires c.saturating_add.ensures)

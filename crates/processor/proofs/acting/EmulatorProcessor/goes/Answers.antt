@@ -17,8 +17,8 @@ returns-in-Ok c =
     let e = c.args.self.now in
     let few : length (breaks_of c.args.breaks.now) ≤ 64 = omega (arith, each_length break_of c.args.breaks.now) in (
       omega arith,
-      goes_promise e _ c.args.n (breaks_of c.args.breaks.now) (codes c.as-slice.result.now) c.as-slice-in-Ok.result.now c.goes.result few refl refl refl
-          (ap codes c.as-slice.ensures.value) c.as-slice-in-Ok.ensures.value
+      goes_promise e _ c.args.n (breaks_of c.args.breaks.now) (codes c.as_slice.result.now) c.as_slice-in-Ok.result.now c.goes.result few refl refl refl
+          (ap codes c.as_slice.ensures.value) c.as_slice-in-Ok.ensures.value
           (λ s l. c.goes.ensures.came (base_of e) s (logged_same (base_of e) e.state _ s refl refl refl refl refl c.in-Ok.ensures.items l)),
     )
 

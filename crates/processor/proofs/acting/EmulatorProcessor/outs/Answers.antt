@@ -16,16 +16,16 @@ pub returns : goal.returns
 returns c =
     let e = c.args.self.now in
     let old = c.args.seen.now in
-    let row = c.tell-outs.new.seen in
-    let told = told_outs c.as-slice.result.now e.state.put c.args.from (length old) in
-    let count = c.tell-outs.ensures.count in
-    let r : row ≡ told ++ drop c.tell-outs.result old = c.tell-outs.ensures.row in
-    let front : take c.tell-outs.result row ≡ told = ap (take c.tell-outs.result) r ∙ take_at told (drop c.tell-outs.result old) c.tell-outs.result (sym count) in
-    let back : drop c.tell-outs.result row ≡ drop c.tell-outs.result old = ap (drop c.tell-outs.result) r ∙ drop_at told (drop c.tell-outs.result old) c.tell-outs.result (sym count) in
-    let log : told_outs (vec_items e.state.log) e.state.put c.args.from (length old) ≡ take c.tell-outs.result row =
-    ap (λ z. told_outs z e.state.put c.args.from (length old)) (sym c.as-slice.ensures.value) ∙ sym front in (
+    let row = c.tell_outs.new.seen in
+    let told = told_outs c.as_slice.result.now e.state.put c.args.from (length old) in
+    let count = c.tell_outs.ensures.count in
+    let r : row ≡ told ++ drop c.tell_outs.result old = c.tell_outs.ensures.row in
+    let front : take c.tell_outs.result row ≡ told = ap (take c.tell_outs.result) r ∙ take_at told (drop c.tell_outs.result old) c.tell_outs.result (sym count) in
+    let back : drop c.tell_outs.result row ≡ drop c.tell_outs.result old = ap (drop c.tell_outs.result) r ∙ drop_at told (drop c.tell_outs.result old) c.tell_outs.result (sym count) in
+    let log : told_outs (vec_items e.state.log) e.state.put c.args.from (length old) ≡ take c.tell_outs.result row =
+    ap (λ z. told_outs z e.state.put c.args.from (length old)) (sym c.as_slice.ensures.value) ∙ sym front in (
       omega arith,
-      omega (arith, count, length-take (length old) (drop c.args.from (take e.state.put c.as-slice.result.now))),
+      omega (arith, count, length-take (length old) (drop c.args.from (take e.state.put c.as_slice.result.now))),
       back,
       subst (λ z. Does (looks_outs c.args.from (length old)) (saw z) 0 (Held e) (Held e)) log (outs_promise e c.args.from (length old) (omega arith)),
     )

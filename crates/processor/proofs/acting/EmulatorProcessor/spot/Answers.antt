@@ -5,4 +5,4 @@ use Rattle.processor.proofs.acting.EmulatorProcessor.spot.Goals as goal
 
 pub returns : goal.returns
 returns c =
-    spot_promise c.args.self.now (codes c.as-slice.result.now) c.as-slice-2.result.now c.why-not-why.result (ap codes c.as-slice.ensures.value) c.as-slice-2.ensures.value c.why-not-why.ensures
+    spot_promise c.args.self.now (codes c.as_slice.result.now) c.as_slice-2.result.now c.why_not-why.result (ap codes c.as_slice.ensures.value) c.as_slice-2.ensures.value c.why_not-why.ensures

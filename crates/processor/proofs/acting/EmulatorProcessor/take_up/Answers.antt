@@ -17,12 +17,12 @@ returns-then-slot-ge256 c =
     let e = c.args.self.now in
     (c.if-slot-ge256.true, refuses_takes (Held e) (Held e) c.args.slot (λ t h. (h, h.1.no_more c.args.slot c.if-slot-ge256.true)))
 
-pub returns-in-default : goal.returns-in-default
-returns-in-default c =
+pub returns-in_default : goal.returns-in_default
+returns-in_default c =
     let e = c.args.self.now in
     let lt = c.if-slot-ge256.false in
     let there : c.args.slot < length (vec_items e.slots) = omega (arith, e.many, e.slots.ok.0) in
-    let none = other_default (vec_items e.slots) c.args.slot None c.index.result.now there ∙ sym c.index.ensures ∙ not_some c.index.result.now c.in-default.not-Some in
+    let none = other_default (vec_items e.slots) c.args.slot None c.index.result.now there ∙ sym c.index.ensures ∙ not_some c.index.result.now c.in_default.not-Some in
     (lt, refuses_takes (Held e) (Held e) c.args.slot (λ t h. (h, empty_held e c.args.slot lt none t h)))
 
 pub returns : goal.returns
@@ -35,6 +35,6 @@ returns c =
       lt,
       does_takes (Held e) (Held _) c.args.slot
           (taken_held e _ c.args.slot lt refl refl refl c.in-Some.kept some r.at r.regs r.taken r.put r.log
-          (λ a h. ap (λ (w : Words). get_or (vec_items w.items) a 0) r.words ∙ c.take-up.ensures.taken a h)
-          (λ row a hr h. ap (λ (w : Words). held_word w.pages row a) r.words ∙ c.take-up.ensures.rows row a hr h)),
+          (λ a h. ap (λ (w : Words). get_or (vec_items w.items) a 0) r.words ∙ c.take_up.ensures.taken a h)
+          (λ row a hr h. ap (λ (w : Words). held_word w.pages row a) r.words ∙ c.take_up.ensures.rows row a hr h)),
     )

@@ -13,9 +13,9 @@ returns-then-seen-gt4096 c =
 pub returns : goal.returns
 returns c =
     let e = c.args.self.now in
-    let row = c.tell-words.new.seen in
+    let row = c.tell_words.new.seen in
     let n : length row ≡ length c.args.seen.now = omega arith in (
       omega arith,
       subst (λ k. Does (looks_words c.args.from k) (saw row) 0 (Held e) (Held e)) n
-          (words_promise e c.args.from row (omega arith) (λ i h. c.tell-words.ensures i h ∙ ap (λ z. get_or z (c.args.from + i) 0) c.as-slice.ensures.value)),
+          (words_promise e c.args.from row (omega arith) (λ i h. c.tell_words.ensures i h ∙ ap (λ z. get_or z (c.args.from + i) 0) c.as_slice.ensures.value)),
     )

@@ -5,28 +5,28 @@ use Rattle.processor.specs.Pages.{Inside, Apart, page_word}
 use Rattle.processor.proofs.Rows.{copied_keeps, copied_apart, copied_word}
 use Rattle.processor.proofs.pages.Pages.copy_row.Goals as goal
 
-pub invariant-of-self : goal.invariant-of-self
-invariant-of-self c =
+pub invariant_of-self : goal.invariant_of-self
+invariant_of-self c =
     let v = c.args.self.now in
-    let ts = c.as-mut-slice.result.now in
-    let q : ts ≡ vec_items v.tables = c.as-mut-slice.ensures.value in
-    let row = c.copy-within.new.row in
+    let ts = c.as_mut_slice.result.now in
+    let q : ts ≡ vec_items v.tables = c.as_mut_slice.ensures.value in
+    let row = c.copy_within.new.row in
     let e = take_at row (drop (length row) v.tables.items) v.tables.len (omega arith) in
-    let inside : Inside row = copied_keeps ts row c.args.to c.args.from c.requires.to c.requires.from c.copy-within.ensures (λ x. x < 73728) (subst Inside (sym q) v.inside) in
-    let apart : Apart row (vec_items v.free) = copied_apart ts row c.args.to c.args.from c.requires.to c.requires.from c.copy-within.ensures (vec_items v.free) (subst (λ z. Apart z (vec_items v.free)) (sym q) v.apart) in
+    let inside : Inside row = copied_keeps ts row c.args.to c.args.from c.requires.to c.requires.from c.copy_within.ensures (λ x. x < 73728) (subst Inside (sym q) v.inside) in
+    let apart : Apart row (vec_items v.free) = copied_apart ts row c.args.to c.args.from c.requires.to c.requires.from c.copy_within.ensures (vec_items v.free) (subst (λ z. Apart z (vec_items v.free)) (sym q) v.apart) in
     (v.full, (v.rows, (v.marks, (v.room, (subst Inside (sym e) inside, (v.spare, (subst (λ z. Apart z (vec_items v.free)) (sym e) apart, (v.distinct, tt))))))))
 
 pub returns : goal.returns
 returns c =
     let v = c.args.self.now in
-    let ts = c.as-mut-slice.result.now in
-    let q : ts ≡ vec_items v.tables = c.as-mut-slice.ensures.value in
-    let row = c.copy-within.new.row in
+    let ts = c.as_mut_slice.result.now in
+    let q : ts ≡ vec_items v.tables = c.as_mut_slice.ensures.value in
+    let row = c.copy_within.new.row in
     let e = take_at row (drop (length row) v.tables.items) v.tables.len (omega arith) in
     record {
       cells = refl;
       rows = λ j a h.
           ap (λ z. page_word (vec_items v.cells) z j a) e
-          ∙ copied_word ts row c.args.to c.args.from c.requires.to c.requires.from c.copy-within.ensures (vec_items v.cells) j a h
+          ∙ copied_word ts row c.args.to c.args.from c.requires.to c.requires.from c.copy_within.ensures (vec_items v.cells) j a h
           ∙ ap (λ z. pick (eqb j c.args.to) (page_word (vec_items v.cells) z c.args.from a) (page_word (vec_items v.cells) z j a)) q;
     }

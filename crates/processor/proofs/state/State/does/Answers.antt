@@ -7,16 +7,16 @@ pub returns-in-Load : goal.returns-in-Load
 unfolding does
 returns-in-Load c =
     record {
-      after = λ b s l. simp c.in-Load.is (c.with-reg.ensures.on b s l);
-      room = c.with-reg.ensures.room;
+      after = λ b s l. simp c.in-Load.is (c.with_reg.ensures.on b s l);
+      room = c.with_reg.ensures.room;
     }
 
 pub returns-in-Copied : goal.returns-in-Copied
 unfolding does
 returns-in-Copied c =
     record {
-      after = λ b s l. simp (c.in-Copied.is, l.registers) (simp l.registers at (c.with-reg-in-Copied.ensures.on b s l));
-      room = c.with-reg-in-Copied.ensures.room;
+      after = λ b s l. simp (c.in-Copied.is, l.registers) (simp l.registers at (c.with_reg-in-Copied.ensures.on b s l));
+      room = c.with_reg-in-Copied.ensures.room;
     }
 
 pub returns-in-Jump : goal.returns-in-Jump

@@ -13,13 +13,13 @@ returns-in-Not c =
       room = omega (arith, c.in-Not.ensures.room.cap);
     }
 
-pub returns-then-any-holds : goal.returns-then-any-holds
-returns-then-any-holds c =
+pub returns-then-any_holds : goal.returns-then-any_holds
+returns-then-any_holds c =
     record {
       came = λ b s l.
           far_hit (codes c.args.program.now) c.args.fed.now (breaks_of c.args.breaks.now) b c.loop-by.self c.step-went.new.self c.args.n c.loop-by.by s
-          c.step-went.result c.any-holds.result c.loop-by-test.true (c.loop-by.invariant.3 b s l) (c.step-went.ensures.after b)
-          c.in-default.not-Not (c.any-holds.ensures b) c.if-any-holds.true;
+          c.step-went.result c.any_holds.result c.loop-by-test.true (c.loop-by.invariant.3 b s l) (c.step-went.ensures.after b)
+          c.in_default.not-Not (c.any_holds.ensures b) c.if-any_holds.true;
       room = omega (arith, c.step-went.ensures.room.cap);
     }
 
@@ -30,8 +30,8 @@ loop-by-preserved c = (
   omega (arith, c.step-went.ensures.room.cap),
   λ b s l.
       far_on (codes c.args.program.now) c.args.fed.now (breaks_of c.args.breaks.now) b c.loop-by.self c.step-went.new.self c.args.n c.loop-by.by s
-      c.step-went.result c.any-holds.result c.loop-by-test.true (c.loop-by.invariant.3 b s l) (c.step-went.ensures.after b)
-      c.in-default.not-Not (c.any-holds.ensures b) c.if-any-holds.false,
+      c.step-went.result c.any_holds.result c.loop-by-test.true (c.loop-by.invariant.3 b s l) (c.step-went.ensures.after b)
+      c.in_default.not-Not (c.any_holds.ensures b) c.if-any_holds.false,
 )
 
 pub returns : goal.returns

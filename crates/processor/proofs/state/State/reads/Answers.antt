@@ -13,6 +13,6 @@ pub returns : goal.returns
 returns c =
     record {
       after = λ b s ins l.
-          reads_on b c.args.self.now s l _ ins c.args.k.number c.args.from.number c.args.n c.get-v.result c.if-a-ge65536.false c.get-v.ensures (c.with-reg.ensures.on b s l);
-      room = c.with-reg.ensures.room;
+          reads_on b c.args.self.now s l _ ins c.args.k.number c.args.from.number c.args.n c.get-v.result c.if-a-ge65536.false c.get-v.ensures (c.with_reg.ensures.on b s l);
+      room = c.with_reg.ensures.room;
     }

@@ -7,8 +7,8 @@ pub returns-in-Some : goal.returns-in-Some
 returns-in-Some c =
     record {
       after = λ b s ins l.
-          reckons_on b c.args.self.now s l _ ins (op_number c.args.op) c.args.k.number c.args.j.number c.in-Some.v c.in-Some.ensures (c.with-reg.ensures.on b s l);
-      room = c.with-reg.ensures.room;
+          reckons_on b c.args.self.now s l _ ins (op_number c.args.op) c.args.k.number c.args.j.number c.in-Some.v c.in-Some.ensures (c.with_reg.ensures.on b s l);
+      room = c.with_reg.ensures.room;
     }
 
 pub returns-in-None : goal.returns-in-None

@@ -17,4 +17,4 @@ returns c b s l =
     let i = c.index-program-at.result in
     let e = steps_on b c.args.self.now s l c.args.program.now c.args.fed.now i c.if-at-program.false in
     let f = ap (λ z. does s c.args.fed.now (code z)) c.index-program-at.is in
-    c.not-done.ensures b s l ∙ ap (λ z. status_number z.status) (f ∙ sym e)
+    c.not_done.ensures b s l ∙ ap (λ z. status_number z.status) (f ∙ sym e)

@@ -4,8 +4,8 @@ use Rattle.processor.specs.Held.{held_word}
 use Rattle.processor.proofs.Flushes.{dirty_clean}
 use Rattle.processor.proofs.words.Words.clear.Goals as goal
 
-pub invariant-of-self : goal.invariant-of-self
-invariant-of-self c = let v = c.args.self.now in (v.full, (dirty_clean _ (held_word v.pages), tt))
+pub invariant_of-self : goal.invariant_of-self
+invariant_of-self c = let v = c.args.self.now in (v.full, (dirty_clean _ (held_word v.pages), tt))
 
 pub returns : goal.returns
 returns c a =

@@ -5,12 +5,12 @@ use Rattle.command.specs.Machine.{pick}
 use Rattle.processor.specs.Held.{held_word}
 use Rattle.processor.proofs.words.Words.take_up.Goals as goal
 
-pub invariant-of-self : goal.invariant-of-self
-invariant-of-self c =
+pub invariant_of-self : goal.invariant_of-self
+invariant_of-self c =
     let v = c.args.self.now in
     let items = c.restore.new.items in
     let e = take_at items (drop (length items) v.items.items) v.items.len (omega arith) in
-    (v.full, ((λ a h d. ap (λ z. get_or z a 0) e ∙ c.restore.ensures a h ∙ sym (c.copy-row.ensures.rows 256 a h)), tt))
+    (v.full, ((λ a h d. ap (λ z. get_or z a 0) e ∙ c.restore.ensures a h ∙ sym (c.copy_row.ensures.rows 256 a h)), tt))
 
 pub returns : goal.returns
 returns c =
@@ -19,5 +19,5 @@ returns c =
     let e = take_at items (drop (length items) v.items.items) v.items.len (omega arith) in
     record {
       taken = λ a h. ap (λ z. get_or z a 0) e ∙ c.restore.ensures a h;
-      rows = λ row a hr h. let ne : row ≡ 256 → ⊥ = λ q. (let p = q in omega arith) in c.copy-row.ensures.rows row a h ∙ simp (ne_eqb row 256 ne);
+      rows = λ row a hr h. let ne : row ≡ 256 → ⊥ = λ q. (let p = q in omega arith) in c.copy_row.ensures.rows row a h ∙ simp (ne_eqb row 256 ne);
     }

@@ -6,15 +6,15 @@ use Rattle.processor.proofs.Defaults.{defaults_copies}
 use Rattle.processor.proofs.Flushes.{dirty_clean}
 use Rattle.processor.proofs.words.Words.zeros.Goals as goal
 
-pub returns-in-err-pages : goal.returns-in-err-pages
-returns-in-err-pages c = IfOk-from_err _ _ c.from-residual-in-err-pages.ensures.0
+pub returns-in_err-pages : goal.returns-in_err-pages
+returns-in_err-pages c = IfOk-from_err _ _ c.from_residual-in_err-pages.ensures.0
 
-pub invariant-of-result : goal.invariant-of-result
-invariant-of-result c =
-    let v = c.in-ok-items.items in
-    let e = c.in-ok-items.ensures.items-if-clones-equal (λ y e. e) in
+pub invariant_of-result : goal.invariant_of-result
+invariant_of-result c =
+    let v = c.in_ok-items.items in
+    let e = c.in_ok-items.ensures.items_if_clones_equal (λ y e. e) in
     let n : length (vec_items v) ≡ 65536 = ap length e ∙ length-replicate {A = ℕ} 65536 0 in
-    (omega (arith, v.ok.0), (dirty_clean (vec_items v) (held_word c.in-ok-pages.pages), tt))
+    (omega (arith, v.ok.0), (dirty_clean (vec_items v) (held_word c.in_ok-pages.pages), tt))
 
 pub returns : goal.returns
-returns c = λ a. ap (λ z. get_or z a 0) (c.in-ok-items.ensures.items-if-clones-equal (λ y e. e)) ∙ defaults_copies {A = ℕ} 65536 0 a
+returns c = λ a. ap (λ z. get_or z a 0) (c.in_ok-items.ensures.items_if_clones_equal (λ y e. e)) ∙ defaults_copies {A = ℕ} 65536 0 a

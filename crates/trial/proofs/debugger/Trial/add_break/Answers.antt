@@ -9,16 +9,16 @@ use Rattle.trial.proofs.Moves.{with_break}
 use Rattle.trial.proofs.Turning.{answered, refused_with, one_row, turn_break, turn_break_no}
 use Rattle.trial.proofs.debugger.Trial.add_break.Goals as goal
 
-pub returns-then-len-ge-MOST-BREAKS : goal.returns-then-len-ge-MOST-BREAKS
-returns-then-len-ge-MOST-BREAKS c w k =
+pub returns-then-len-ge-MOST_BREAKS : goal.returns-then-len-ge-MOST_BREAKS
+returns-then-len-ge-MOST_BREAKS c w k =
     let e = ap length k.breaks ∙ each_length break_numbered (vec_items c.args.self.now.breaks) in
-    let l : 64 ≤ length w.breaks = omega (arith, e, c.len.ensures, c.if-len-ge-MOST-BREAKS.true, c.args.self.now.breaks.ok.0) in
+    let l : 64 ≤ length w.breaks = omega (arith, e, c.len.ensures, c.if-len-ge-MOST_BREAKS.true, c.args.self.now.breaks.ok.0) in
     refused_with c.refused.result _ w (add_break (break_of c.args.stop)) 7 (turn_break_no w _ l) c.refused.ensures.0 c.refused.ensures.1 k
 
 pub returns : goal.returns
 returns c w k =
     let e = ap length k.breaks ∙ each_length break_numbered (vec_items c.args.self.now.breaks) in
-    let l : length w.breaks < 64 = omega (arith, e, c.len.ensures, c.if-len-ge-MOST-BREAKS.false, c.args.self.now.breaks.ok.0) in
+    let l : length w.breaks < 64 = omega (arith, e, c.len.ensures, c.if-len-ge-MOST_BREAKS.false, c.args.self.now.breaks.ok.0) in
     answered c.shows.result _ w (add_break (break_of c.args.stop)) _ (turn_break w _ l) c.shows.ensures.0
-    (ap (rows vec_items) c.shows.ensures.1 ∙ ap (λ z. flat eight z ∷ []) c.in-ok-row.ensures.items ∙ ap (λ z. z ∷ []) (one_row c.args.self.now.next ∙ ap eight (sym k.next)))
-    (with_break _ _ _ _ _ _ _ w k _ _ c.in-Some.next refl (omega (arith, c.in-Some.ensures)) c.in-ok-push.ensures.items)
+    (ap (rows vec_items) c.shows.ensures.1 ∙ ap (λ z. flat eight z ∷ []) c.in_ok-row.ensures.items ∙ ap (λ z. z ∷ []) (one_row c.args.self.now.next ∙ ap eight (sym k.next)))
+    (with_break _ _ _ _ _ _ _ w k _ _ c.in-Some.next refl (omega (arith, c.in-Some.ensures)) c.in_ok-push.ensures.items)

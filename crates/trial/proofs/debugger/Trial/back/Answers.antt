@@ -7,6 +7,6 @@ pub loop-i-preserved : goal.loop-i-preserved
 loop-i-preserved c = (
   omega (arith, c.undo.ensures.time, c.loop-i.invariant.0),
   λ w k.
-      let e : w.now - (c.loop-i.-i + 1) ≡ w.now - c.loop-i.-i - 1 = omega arith in
-      moved_as w _ _ e (c.undo.ensures.kept (moved w (w.now - c.loop-i.-i)) (c.loop-i.invariant.1 w k)),
+      let e : w.now - (c.loop-i._i + 1) ≡ w.now - c.loop-i._i - 1 = omega arith in
+      moved_as w _ _ e (c.undo.ensures.kept (moved w (w.now - c.loop-i._i)) (c.loop-i.invariant.1 w k)),
 )

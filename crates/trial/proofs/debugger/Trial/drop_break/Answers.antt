@@ -9,11 +9,11 @@ use Rattle.trial.proofs.debugger.Trial.drop_break.Goals as goal
 
 pub returns-then-not-has : goal.returns-then-not-has
 returns-then-not-has c w k =
-    let e = ap (any (λ b. eqb b.id c.args.number)) (k.breaks ∙ ap (each break_numbered) (sym c.as-slice.ensures.value)) ∙ sym c.has.ensures ∙ c.if-not-has.true in
+    let e = ap (any (λ b. eqb b.id c.args.number)) (k.breaks ∙ ap (each break_numbered) (sym c.as_slice.ensures.value)) ∙ sym c.has.ensures ∙ c.if-not-has.true in
     refused_with c.refused.result _ w (drop_break c.args.number) 3 (turn_drop_no w c.args.number e) c.refused.ensures.0 c.refused.ensures.1 k
 
 pub returns : goal.returns
 returns c w k =
-    let e = ap (any (λ b. eqb b.id c.args.number)) (k.breaks ∙ ap (each break_numbered) (sym c.as-slice.ensures.value)) ∙ sym c.has.ensures ∙ c.if-not-has.false in
+    let e = ap (any (λ b. eqb b.id c.args.number)) (k.breaks ∙ ap (each break_numbered) (sym c.as_slice.ensures.value)) ∙ sym c.has.ensures ∙ c.if-not-has.false in
     answered c.done.result _ w (drop_break c.args.number) _ (turn_drop w c.args.number e) c.done.ensures.0 (ap (rows vec_items) c.done.ensures.1)
     (without_break _ _ _ _ _ _ _ w k c.args.number _ c.remove.ensures.rest)

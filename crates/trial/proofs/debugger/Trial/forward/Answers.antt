@@ -6,20 +6,20 @@ use Rattle.trial.proofs.debugger.Trial.forward.Goals as goal
 pub returns-then-not-branch : goal.returns-then-not-branch
 returns-then-not-branch c w k =
     let i = c.loop-i.invariant w k in
-    let g = c.in-ok-goes-on.ensures.goes (moved w c.loop-i.self.now) i.0 in
-    moved_as w _ _ (on_stuck w [] c.loop-i.self.now c.args.most c.loop-i.-i i.1 (g.0 ∙ c.if-not-branch.true)) (rw c.if-not-branch.true at g.1)
+    let g = c.in_ok-goes_on.ensures.goes (moved w c.loop-i.self.now) i.0 in
+    moved_as w _ _ (on_stuck w [] c.loop-i.self.now c.args.most c.loop-i._i i.1 (g.0 ∙ c.if-not-branch.true)) (rw c.if-not-branch.true at g.1)
 
 pub loop-i-preserved : goal.loop-i-preserved
 loop-i-preserved c w k =
     let i = c.loop-i.invariant w k in
-    let g = c.in-ok-goes-on.ensures.goes (moved w c.loop-i.self.now) i.0 in
+    let g = c.in_ok-goes_on.ensures.goes (moved w c.loop-i.self.now) i.0 in
     let h = rw c.if-not-branch.false at g.1 in
     let m = moved_as w _ _ (sym h.time) h in (
       m,
-      on_more w [] c.loop-i.self.now c.args.most c.loop-i.-i i.1 c.goes-on.new.self.now c.loop-i-test.true (sym h.time) (g.0 ∙ c.if-not-branch.false) (none_holds w c.goes-on.new.self.now),
+      on_more w [] c.loop-i.self.now c.args.most c.loop-i._i i.1 c.goes_on.new.self.now c.loop-i-test.true (sym h.time) (g.0 ∙ c.if-not-branch.false) (none_holds w c.goes_on.new.self.now),
     )
 
 pub returns : goal.returns
 returns c w k =
     let i = c.loop-i.invariant w k in
-    moved_as w _ _ (on_done w [] c.loop-i.self.now c.args.most c.loop-i.-i i.1 c.loop-i-test.false) i.0
+    moved_as w _ _ (on_done w [] c.loop-i.self.now c.args.most c.loop-i._i i.1 c.loop-i-test.false) i.0

@@ -10,13 +10,13 @@ use Rattle.trial.proofs.debugger.Trial.load.Goals as goal
 pub returns : goal.returns
 returns c w k =
     let is = c.args.program.now in
-    let e : vec_items c.extend-from-slice.new.self ≡ is = c.in-ok-extend-from-slice.ensures.items ∙ ap (λ z. z ++ is) c.clear.ensures.items in
+    let e : vec_items c.extend_from_slice.new.self ≡ is = c.in_ok-extend_from_slice.ensures.items ∙ ap (λ z. z ++ is) c.clear.ensures.items in
     let z : c.back.new.self.now ≡ 0 = omega (arith, c.back.ensures.time) in
-    let h = begun _ _ _ _ _ _ _ _ (c.back.ensures.kept w k) (codes is) (vec_items c.extend-from-slice.new.self) _ _ _ z (ap codes (sym e)) c.clear-2.ensures.items c.truncate.ensures.items c.clear-3.ensures.items in
+    let h = begun _ _ _ _ _ _ _ _ (c.back.ensures.kept w k) (codes is) (vec_items c.extend_from_slice.new.self) _ _ _ z (ap codes (sym e)) c.clear-2.ensures.items c.truncate.ensures.items c.clear-3.ensures.items in
     record {
       short = λ _. record {
         answers = answered c.done.result _ w (load (codes is)) _ (turn_load w (codes is)) c.done.ensures.0 (ap (rows vec_items) c.done.ensures.1) h;
         granted = c.done.ensures.2 ∙ sym (load_free w (codes is) _);
       };
-      long = λ l. absurd (omega (arith, l, c.if-program-gt-MOST-INSTRS.false));
+      long = λ l. absurd (omega (arith, l, c.if-program-gt-MOST_INSTRS.false));
     }

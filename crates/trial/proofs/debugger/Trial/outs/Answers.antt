@@ -4,7 +4,7 @@ use Rattle.command.specs.Machine.{flat}
 use Rattle.command.specs.Plain.{at_time}
 use Rattle.trial.proofs.Shows.{outs_at, outs_more, outs_of}
 use Rattle.trial.proofs.debugger.Trial.outs.Goals as goal
-use Rattle.trial.proofs.debugger.Trial.outs.Goals.{in-Some+in-ok-push, in-default}
+use Rattle.trial.proofs.debugger.Trial.outs.Goals.{in-Some+in_ok-push, in_default}
 
 pub loop-time-preserved : goal.loop-time-preserved
 loop-time-preserved c =
@@ -13,9 +13,9 @@ loop-time-preserved c =
     let lt : c.loop-time.time < length past = omega (arith, c.loop-time-test.true, c.args.self.now.known, c.args.self.now.past.ok.0) in
     let m = outs_more xs past c.loop-time.time c.index.result.now lt c.index.ensures c.loop-time.invariant in
     elim c.match-index.branch [
-      | in-Some+in-ok-push z ↦
-          ap vec_items z.outs-is ∙ z.in-ok-push.ensures.items ∙ ap (λ v. xs ++ v ∷ []) z.from.ensures ∙ ap (λ v. xs ++ option_to_list v) (sym z.in-Some.is) ∙ m
-      | in-default z ↦ ap vec_items z.outs-is ∙ sym (append-nil xs) ∙ ap (λ v. xs ++ option_to_list v) (sym z.in-default.is) ∙ m
+      | in-Some+in_ok-push z ↦
+          ap vec_items z.outs-is ∙ z.in_ok-push.ensures.items ∙ ap (λ v. xs ++ v ∷ []) z.from.ensures ∙ ap (λ v. xs ++ option_to_list v) (sym z.in-Some.is) ∙ m
+      | in_default z ↦ ap vec_items z.outs-is ∙ sym (append-nil xs) ∙ ap (λ v. xs ++ option_to_list v) (sym z.in_default.is) ∙ m
     ]
 
 pub returns : goal.returns

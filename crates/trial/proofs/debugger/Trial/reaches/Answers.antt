@@ -10,13 +10,13 @@ returns-then-self-len c =
       tells = λ w k. (goes _ _ _ _ _ _ _ w k (omega (arith, c.len.ensures, c.if-self-len.true, c.args.self.now.past.ok.0)), k);
     }
 
-pub returns-in-default : goal.returns-in-default
-returns-in-default c =
+pub returns-in_default : goal.returns-in_default
+returns-in_default c =
     record {
       there = λ e. absurd (both_ways _ refl e);
       tells = λ w k. (
-        stuck _ _ _ _ _ _ _ w k _ _ _ c.index.result.now c.as-slice.ensures.value c.as-slice-2.ensures.value c.as-slice-3.ensures.value c.index.ensures
-            c.in-default.field-0 c.in-default.ensures,
+        stuck _ _ _ _ _ _ _ w k _ _ _ c.index.result.now c.as_slice.ensures.value c.as_slice-2.ensures.value c.as_slice-3.ensures.value c.index.ensures
+            c.in_default.field-0 c.in_default.ensures,
         k,
       );
     }
@@ -24,8 +24,8 @@ returns-in-default c =
 pub returns : goal.returns
 returns c =
     record {
-      there = λ _. omega (arith, c.in-ok-push.ensures.len, c.args.self.now.known);
+      there = λ _. omega (arith, c.in_ok-push.ensures.len, c.args.self.now.known);
       tells = λ w k.
-          more _ _ _ _ _ _ _ w k _ _ _ c.index.result.now c.as-slice.ensures.value c.as-slice-2.ensures.value c.as-slice-3.ensures.value c.index.ensures
-          c.in-Ok.moment _ c.in-Ok.ensures (omega (arith, c.len.ensures, c.if-self-len.false, c.args.self.now.known, c.args.self.now.past.ok.0)) c.in-ok-push.ensures.items;
+          more _ _ _ _ _ _ _ w k _ _ _ c.index.result.now c.as_slice.ensures.value c.as_slice-2.ensures.value c.as_slice-3.ensures.value c.index.ensures
+          c.in-Ok.moment _ c.in-Ok.ensures (omega (arith, c.len.ensures, c.if-self-len.false, c.args.self.now.known, c.args.self.now.past.ok.0)) c.in_ok-push.ensures.items;
     }

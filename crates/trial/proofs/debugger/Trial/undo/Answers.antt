@@ -11,9 +11,9 @@ returns-in-Some c =
       time = refl;
     }
 
-pub returns-in-default : goal.returns-in-default
-returns-in-default c =
+pub returns-in_default : goal.returns-in_default
+returns-in_default c =
     record {
-      kept = λ w k. back_none _ _ _ _ _ _ _ w k c.index.result.now c.index.ensures c.requires c.in-default.is;
+      kept = λ w k. back_none _ _ _ _ _ _ _ w k c.index.result.now c.index.ensures c.requires c.in_default.is;
       time = refl;
     }

@@ -9,4 +9,4 @@ pub returns : goal.returns
 returns c s ins l held =
     let ne = c.if-top-eq0.false in
     let h : 1 ≤ get_or c.args.self.now.regs 15 0 = omega arith in
-    rw (c.gone-to-next.ensures, c.from.ensures) (calls_on c.args.self.now s l c.args.words.now held ins c.args.n _ h c.if-top-gt65536.false refl)
+    rw (c.gone_to-next.ensures, c.from.ensures) (calls_on c.args.self.now s l c.args.words.now held ins c.args.n _ h c.if-top-gt65536.false refl)

@@ -5,15 +5,15 @@ use Rattle.trial.proofs.moments.Moment.does.Goals as goal
 
 pub returns-in-Load : goal.returns-in-Load
 unfolding does
-returns-in-Load c s l held = rw (c.in-Load.is, c.with-reg.ensures) (with_reg_on c.args.self.now s l c.in-Load.k.number c.in-Load.n)
+returns-in-Load c s l held = rw (c.in-Load.is, c.with_reg.ensures) (with_reg_on c.args.self.now s l c.in-Load.k.number c.in-Load.n)
 
 pub returns-in-Copied : goal.returns-in-Copied
 returns-in-Copied c s l held =
-    rw (c.in-Copied.is, c.with-reg-in-Copied.ensures, c.reg.ensures) (copies_on c.args.self.now s l c.args.fed.now c.in-Copied.k.number c.in-Copied.j.number)
+    rw (c.in-Copied.is, c.with_reg-in-Copied.ensures, c.reg.ensures) (copies_on c.args.self.now s l c.args.fed.now c.in-Copied.k.number c.in-Copied.j.number)
 
 pub returns-in-Jump : goal.returns-in-Jump
 unfolding does
-returns-in-Jump c s l held = rw (c.in-Jump.is, c.gone-to.ensures, c.from.ensures) (goes_to c.args.self.now s l c.in-Jump.n)
+returns-in-Jump c s l held = rw (c.in-Jump.is, c.gone_to.ensures, c.from.ensures) (goes_to c.args.self.now s l c.in-Jump.n)
 
 pub returns-in-Halt : goal.returns-in-Halt
 unfolding does

@@ -6,7 +6,7 @@ pub loop-i-preserved : goal.loop-i-preserved
 loop-i-preserved c =
     let rs = c.args.self.now.regs in
     let lt : c.loop-i.i < length rs = omega arith in
-    c.in-ok-push.ensures.items ∙ ap (λ z. z ++ c.from.result ∷ []) c.loop-i.invariant ∙ ap (λ z. take c.loop-i.i rs ++ z ∷ []) c.from.ensures
+    c.in_ok-push.ensures.items ∙ ap (λ z. z ++ c.from.result ∷ []) c.loop-i.invariant ∙ ap (λ z. take c.loop-i.i rs ++ z ∷ []) c.from.ensures
     ∙ sym (take_more rs c.loop-i.i 0 lt)
 
 pub returns : goal.returns

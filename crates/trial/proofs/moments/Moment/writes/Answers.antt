@@ -8,5 +8,5 @@ returns-then-place-ge-WORDS c s ins l held =
 
 pub returns : goal.returns
 returns c s ins l held =
-    rw (c.gone-to-next.ensures, c.reg.ensures, c.reg-2.ensures)
+    rw (c.gone_to-next.ensures, c.reg.ensures, c.reg-2.ensures)
     (writes_on c.args.self.now s l c.args.words.now held ins c.args.k.number c.args.base.number c.args.n _ (rw c.reg.ensures at c.if-place-ge-WORDS.false) refl)
