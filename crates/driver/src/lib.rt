@@ -1,5 +1,6 @@
 // The driver: what is said to the debugger is carried out, its acts carried to a processor and what comes of them back, until the command is over.
 #![tactic(auto)]
+
 mod acts;
 mod debugger;
 mod event;

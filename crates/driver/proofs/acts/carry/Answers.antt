@@ -14,7 +14,7 @@ pub returns-in-Keeps : goal.returns-in-Keeps
 returns-in-Keeps g c = record { done = serves_carries _ _ _ _ _ _ _ _ c.in-Keeps.is (c.keep.ensures.done _); sound = c.keep.ensures.sound 4096 }
 
 pub returns-in-TakesUp : goal.returns-in-TakesUp
-returns-in-TakesUp g c = record { done = serves_carries _ _ _ _ _ _ _ _ c.in-TakesUp.is (c.take-up.ensures.done _); sound = c.take-up.ensures.sound 4096 }
+returns-in-TakesUp g c = record { done = serves_carries _ _ _ _ _ _ _ _ c.in-TakesUp.is (c.take_up.ensures.done _); sound = c.take_up.ensures.sound 4096 }
 
 pub returns-in-Looks : goal.returns-in-Looks
 returns-in-Looks g c = record { done = serves_carries _ _ _ _ _ _ _ _ c.in-Looks.is c.look.ensures.done; sound = c.look.ensures.sound }

@@ -7,6 +7,6 @@ pub returns : goal.returns
 returns g c =
     let spot = c.spot-spot.result in
     record {
-      done = saw_place _ _ _ _ _ c.args.kind _ c.requires.kind (two_set c.args.seen.now spot.at c.number-of.result (omega (arith, c.requires.seen)) ∙ ap (λ y. spot.at ∷ y ∷ []) c.number-of.ensures) c.spot-spot.ensures;
+      done = saw_place _ _ _ _ _ c.args.kind _ c.requires.kind (two_set c.args.seen.now spot.at c.number_of.result (omega (arith, c.requires.seen)) ∙ ap (λ y. spot.at ∷ y ∷ []) c.number_of.ensures) c.spot-spot.ensures;
       sound = lit≤ tt;
     }

@@ -5,6 +5,6 @@ use Rattle.driver.proofs.acts.take_up.Goals as goal
 pub returns : goal.returns
 returns g c =
     record {
-      done = λ seen. as_heard _ _ _ _ seen (TakesUp c.args.slot) c.heard.ensures (took _ _ _ _ seen c.args.slot c.take-up.result c.take-up.ensures);
-      sound = heard_sound c.take-up.result c.heard.ensures;
+      done = λ seen. as_heard _ _ _ _ seen (TakesUp c.args.slot) c.heard.ensures (took _ _ _ _ seen c.args.slot c.take_up.result c.take_up.ensures);
+      sound = heard_sound c.take_up.result c.heard.ensures;
     }

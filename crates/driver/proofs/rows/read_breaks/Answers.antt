@@ -10,11 +10,11 @@ loop-i-init c =
     let n = c.args.count in
     let z : n ≡ n - 0 = omega arith in (omega arith, subst (λ k. Left break n c.args.text.now k [] c.args.text.now) z (left_start break n c.args.text.now))
 
-pub returns-in-default : goal.returns-in-default
-returns-in-default c =
+pub returns-in_default : goal.returns-in_default
+returns-in_default c =
     let n = c.args.count in
     let e : n - c.loop-i.i ≡ suc (n - (c.loop-i.i + 1)) = omega (arith, c.loop-i-test.true) in
-    left_none break _ _ _ _ _ (left c.loop-i.cursor) e c.loop-i.invariant.1 c.in-default.ensures
+    left_none break _ _ _ _ _ (left c.loop-i.cursor) e c.loop-i.invariant.1 c.in_default.ensures
 
 pub loop-i-preserved : goal.loop-i-preserved
 loop-i-preserved c =

@@ -3,9 +3,9 @@ use Rattle.std.proofs.lemmas.List.{take_all, take_more, take_more_set}
 use Rattle.driver.proofs.Seen.{no_word}
 use Rattle.driver.proofs.rows.read_numbers.Goals as goal
 
-pub returns-in-default : goal.returns-in-default
-returns-in-default c =
-    no_word (length c.loop-i.numbers) c.args.row.now c.loop-i.i (omega (arith, c.loop-i.auto.numbers, c.loop-i-test.true)) (omega (arith, c.loop-i.auto.numbers, c.requires)) c.in-default.ensures
+pub returns-in_default : goal.returns-in_default
+returns-in_default c =
+    no_word (length c.loop-i.numbers) c.args.row.now c.loop-i.i (omega (arith, c.loop-i.auto.numbers, c.loop-i-test.true)) (omega (arith, c.loop-i.auto.numbers, c.requires)) c.in_default.ensures
 
 pub loop-i-preserved : goal.loop-i-preserved
 loop-i-preserved c =

@@ -11,11 +11,11 @@ loop-i-init c =
     let n = length c.args.program.now in
     let z : n ≡ n - 0 = omega arith in subst (λ k. Left instr n c.args.text.now k [] c.args.text.now) z (left_start instr n c.args.text.now)
 
-pub returns-in-default : goal.returns-in-default
-returns-in-default c =
+pub returns-in_default : goal.returns-in_default
+returns-in_default c =
     let n = length c.args.program.now in
     let e : n - c.loop-i.i ≡ suc (n - (c.loop-i.i + 1)) = omega (arith, c.loop-i-test.true) in
-    left_none instr _ _ _ _ _ (left c.loop-i.cursor) e c.loop-i.invariant c.in-default.ensures
+    left_none instr _ _ _ _ _ (left c.loop-i.cursor) e c.loop-i.invariant c.in_default.ensures
 
 pub loop-i-preserved : goal.loop-i-preserved
 loop-i-preserved c =

@@ -6,7 +6,7 @@ use Rattle.listing.proofs.labels.label_of.Goals as goal
 pub returns-then-label-place : goal.returns-then-label-place
 returns-then-label-place c =
     let e = name_at c.args.labels.now c.loop-label.label-index c.args.place c.label-item.result c.loop-label-test.true c.label-item.is in
-    ap (λ (t : List ℕ). Some t) c.as-str.ensures.value ∙ sym (e ∙ pick_yes _ _ _ (eq-eqb _ _ c.if-label-place.true)) ∙ c.loop-label.invariant
+    ap (λ (t : List ℕ). Some t) c.as_str.ensures.value ∙ sym (e ∙ pick_yes _ _ _ (eq-eqb _ _ c.if-label-place.true)) ∙ c.loop-label.invariant
 
 pub loop-label-preserved : goal.loop-label-preserved
 loop-label-preserved c =

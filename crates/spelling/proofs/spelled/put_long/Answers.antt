@@ -5,6 +5,6 @@ use Rattle.spelling.proofs.spelled.put_long.Goals as goal
 
 pub returns : goal.returns
 returns c =
-    IfOk-weaker c.put-number.result _ _
-    (λ x p. p ∙ (ap (λ u. u ++ eight c.args.number) c.in-ok-put-short.ensures ∙ append_assoc (vec_items c.args.bytes.now) c.args.head.now (eight c.args.number)))
-    c.put-number.ensures
+    IfOk-weaker c.put_number.result _ _
+    (λ x p. p ∙ (ap (λ u. u ++ eight c.args.number) c.in_ok-put_short.ensures ∙ append_assoc (vec_items c.args.bytes.now) c.args.head.now (eight c.args.number)))
+    c.put_number.ensures

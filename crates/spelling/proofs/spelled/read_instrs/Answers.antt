@@ -16,15 +16,15 @@ loop-i-init c =
     ∙ ap (λ k. as_a (λ xs. xs) (so_many instr k) t) (sym z)
     ∙ ap (λ (v : List Code). as_a (λ xs. codes v ++ xs) (so_many instr (m - 0)) t) (sym c.new-program.ensures.items)
 
-pub returns-in-default : goal.returns-in-default
-returns-in-default c =
+pub returns-in_default : goal.returns-in_default
+returns-in_default c =
     let e : c.args.count - c.loop-i.i ≡ suc (c.args.count - (c.loop-i.i + 1)) = omega arith in
-    left_none instr c.args.count (left c.args.spelled.now) (c.args.count - c.loop-i.i) (c.args.count - (c.loop-i.i + 1)) (codes (vec_items c.loop-i.program)) (left c.loop-i.spelled) e c.loop-i.invariant c.in-default.ensures
+    left_none instr c.args.count (left c.args.spelled.now) (c.args.count - c.loop-i.i) (c.args.count - (c.loop-i.i + 1)) (codes (vec_items c.loop-i.program)) (left c.loop-i.spelled) e c.loop-i.invariant c.in_default.ensures
 
 pub loop-i-preserved : goal.loop-i-preserved
 loop-i-preserved c =
     let e : c.args.count - c.loop-i.i ≡ suc (c.args.count - (c.loop-i.i + 1)) = omega arith in
-    let put = ap codes c.in-ok-push.ensures.items ∙ each_push code (vec_items c.loop-i.program) c.in-Some.instr in
+    let put = ap codes c.in_ok-push.ensures.items ∙ each_push code (vec_items c.loop-i.program) c.in-Some.instr in
     left_more instr c.args.count (left c.args.spelled.now) (c.args.count - c.loop-i.i) (c.args.count - (c.loop-i.i + 1)) (codes (vec_items c.loop-i.program)) (left c.loop-i.spelled) e c.loop-i.invariant c.in-Some.ensures
     ∙ ap (λ (d : List Instr). as_a (λ xs. d ++ xs) (so_many instr (c.args.count - (c.loop-i.i + 1))) (left c.instr.new.self)) (sym put)
 

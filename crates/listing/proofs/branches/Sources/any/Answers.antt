@@ -3,14 +3,14 @@ use Rattle.command.specs.Machine.{or}
 use Rattle.listing.proofs.Turns.{branch_at, branch_end, branch_here, branch_not_here}
 use Rattle.listing.proofs.branches.Sources.any.Goals as goal
 
-pub returns-then-is-of : goal.returns-then-is-of
-returns-then-is-of c =
-    let e = branch_here c.args.self.now.branch c.args.self.now.program.now c.loop-instr.instr-index c.instr-item.result c.loop-instr-test.true c.instr-item.is c.if-is-of.ensures in
+pub returns-then-is_of : goal.returns-then-is_of
+returns-then-is_of c =
+    let e = branch_here c.args.self.now.branch c.args.self.now.program.now c.loop-instr.instr-index c.instr-item.result c.loop-instr-test.true c.instr-item.is c.if-is_of.ensures in
     sym e ∙ c.loop-instr.invariant
 
 pub loop-instr-preserved : goal.loop-instr-preserved
 loop-instr-preserved c =
-    let e = branch_not_here c.args.self.now.branch c.args.self.now.program.now c.loop-instr.instr-index c.instr-item.result c.loop-instr-test.true c.instr-item.is c.if-is-of.ensures in
+    let e = branch_not_here c.args.self.now.branch c.args.self.now.program.now c.loop-instr.instr-index c.instr-item.result c.loop-instr-test.true c.instr-item.is c.if-is_of.ensures in
     sym e ∙ c.loop-instr.invariant
 
 pub returns : goal.returns

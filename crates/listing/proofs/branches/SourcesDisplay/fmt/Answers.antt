@@ -5,7 +5,7 @@ use Rattle.listing.specs.Branches.{sources_on}
 use Rattle.listing.proofs.Writing.{left_all, left_as, left_less, left_same, left_none}
 use Rattle.listing.proofs.Turns.{source_at, source_end}
 use Rattle.listing.proofs.branches.SourcesDisplay.fmt.Goals as goal
-use Rattle.listing.proofs.branches.SourcesDisplay.fmt.Goals.{then-is-of+in-ok-write, else-is-of}
+use Rattle.listing.proofs.branches.SourcesDisplay.fmt.Goals.{then-is_of+in_ok-write, else-is_of}
 
 pub loop-place-init : goal.loop-place-init
 loop-place-init g c = (([], (refl, refl)), left_all g.W.Write.write_str_gives _ _)
@@ -18,18 +18,18 @@ loop-place-preserved g c =
     let i = c.loop-place.place-counter in
     let s = left_as g.W.Write.write_str_gives _ _ _ _ _ (source_at b is i c.loop-place.separator.now c.instr-item.result c.loop-place-test.true c.instr-item.is) c.loop-place.invariant.1 in
     let next : List ℕ → List ℕ = λ t. sources_on b (i + 1) t (codes (drop (i + 1) is)) in
-    elim c.if-is-of.branch [
-      | then-is-of+in-ok-write w ↦
+    elim c.if-is_of.branch [
+      | then-is_of+in_ok-write w ↦
           let z = ap (λ (r : Bor (List ℕ)). r.now) w.separator-is in (
             (44 ∷ 32 ∷ [], (refl, sym z)),
             left_as g.W.Write.write_str_gives _ _ _ _ _ (sym (ap next z))
-                (left_less g.W.Write.write_str_gives _ _ _ _ _ _ _ _ _ _ _ (sym w.if-is-of.ensures) refl w.f-is (ap is_ok w.in-ok-write.was) w.write.ensures.shows s),
+                (left_less g.W.Write.write_str_gives _ _ _ _ _ _ _ _ _ _ _ (sym w.if-is_of.ensures) refl w.f-is (ap is_ok w.in_ok-write.was) w.write.ensures.shows s),
           )
-      | else-is-of w ↦
+      | else-is_of w ↦
           let z = ap (λ (r : Bor (List ℕ)). r.now) w.separator-is in
           let u = c.loop-place.invariant.0 in (
             (u.0, (u.1.0, u.1.1 ∙ sym z)),
-            left_as g.W.Write.write_str_gives _ _ _ _ _ (sym (ap next z)) (left_same g.W.Write.write_str_gives _ _ _ _ _ _ _ (sym w.if-is-of.ensures) w.f-is s),
+            left_as g.W.Write.write_str_gives _ _ _ _ _ (sym (ap next z)) (left_same g.W.Write.write_str_gives _ _ _ _ _ _ _ (sym w.if-is_of.ensures) w.f-is s),
           )
     ]
 

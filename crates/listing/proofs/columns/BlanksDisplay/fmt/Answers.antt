@@ -6,7 +6,7 @@ use Rattle.listing.proofs.columns.BlanksDisplay.fmt.Goals as goal
 pub loop-i-preserved : goal.loop-i-preserved
 loop-i-preserved g c =
     let s = left_as g.W.Write.write_str_gives _ _ _ _ _ (blank_more c.args.self.now.count c.loop-i.i c.loop-i-test.true) c.loop-i.invariant in
-    left_less g.W.Write.write_str_gives _ _ _ true _ _ _ [] _ _ _ refl refl refl (ap is_ok c.in-ok-write-str.was) c.write-str.ensures.writes s
+    left_less g.W.Write.write_str_gives _ _ _ true _ _ _ [] _ _ _ refl refl refl (ap is_ok c.in_ok-write_str.was) c.write_str.ensures.writes s
 
 pub returns-clause-writes : goal.returns-clause-writes
 returns-clause-writes g c =

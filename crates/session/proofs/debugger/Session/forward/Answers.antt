@@ -16,7 +16,7 @@ returns-then-by-eq0 g c =
     let mid = g.P.Processor.like c.loop-left.self.processor in
     let after = g.P.Processor.like c.go.new.self.processor in
     let s = stride c.loop-left.self.time c.loop-left.left in
-    let h = c.in-ok-by.ensures in
+    let h = c.in_ok-by.ensures in
     let p : 0 < s = omega arith in (
       omega arith,
       λ f. omega (arith, h.1 (omega (arith, c.loop-left.invariant.1 f, c.if-by-eq0.true)), c.loop-left.invariant.1 f, c.if-by-eq0.true),
@@ -31,20 +31,20 @@ loop-left-preserved g c =
     let after = g.P.Processor.like c.go.new.self.processor in
     let s = stride c.loop-left.self.time c.loop-left.left in
     let m = c.args.n - c.loop-left.left in
-    let by = c.in-ok-by.by in
-    let h = c.in-ok-by.ensures in
+    let by = c.in_ok-by.by in
+    let h = c.in_ok-by.ensures in
     let e : m + by ≡ c.args.n - (c.loop-left.left - by) = omega (arith, h.0, c.loop-left.invariant.0) in (
       omega (arith, c.loop-left.invariant.0),
       λ f. let o = c.loop-left.invariant.1 (omega (arith, e, f)) in omega (arith, e, o, h.1 (omega (arith, e, o, f))),
       subst (λ (k : ℕ). Went k before after k) e (went_on before mid after m s by c.loop-left.invariant.2 h.2),
     )
 
-pub returns-in-err-by : goal.returns-in-err-by
-returns-in-err-by g c =
+pub returns-in_err-by : goal.returns-in_err-by
+returns-in_err-by g c =
     let before = g.P.Processor.like c.args.self.now.processor in
     let mid = g.P.Processor.like c.loop-left.self.processor in
     let after = g.P.Processor.like c.go.new.self.processor in
-    let h = c.in-err-by.ensures in
+    let h = c.in_err-by.ensures in
     let m = c.args.n - c.loop-left.left in
-    failed c.args.n before after c.args.self.now.time c.go.new.self.time c.from-residual.result c.from-residual.ensures.0 m (omega arith) (λ f. h.0 ∙ c.loop-left.invariant.1 f)
+    failed c.args.n before after c.args.self.now.time c.go.new.self.time c.from_residual.result c.from_residual.ensures.0 m (omega arith) (λ f. h.0 ∙ c.loop-left.invariant.1 f)
     (went_same before mid after m m c.loop-left.invariant.2 h.1)

@@ -6,9 +6,9 @@ pub returns : goal.returns
 returns g c =
     record {
       given = (
-        omega (arith, c.saturating-add.ensures),
+        omega (arith, c.saturating_add.ensures),
         refl,
-        fed_by (g.P.Processor.like c.args.self.now.processor) (g.P.Processor.like c.feed.new.self) c.args.more.now c.in-default.ensures,
+        fed_by (g.P.Processor.like c.args.self.now.processor) (g.P.Processor.like c.feed.new.self) c.args.more.now c.in_default.ensures,
       );
       time = refl;
     }

@@ -2,9 +2,9 @@ use Rattle.std.proofs.Common.{rules}
 use Rattle.spelling.specs.Spelling.{instr}
 use Rattle.spelling.proofs.spelled.Spelled.instr.Goals as goal
 
-pub returns-in-err-tag : goal.returns-in-err-tag
+pub returns-in_err-tag : goal.returns-in_err-tag
 unfolding instr
-returns-in-err-tag c = search rules
+returns-in_err-tag c = search rules
 
 pub returns : goal.returns
 unfolding instr
