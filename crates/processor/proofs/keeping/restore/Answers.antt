@@ -16,7 +16,7 @@ copy_page-requires c =
     let ps = c.args.pages.now in
     let i : c.args.slot * 256 + c.loop-p.p < 65792 = omega arith in
     let e = named ps (c.args.slot * 256 + c.loop-p.p) c.index.result.now i c.index.ensures in
-    (omega arith, omega (arith, e, ps.inside (c.args.slot * 256 + c.loop-p.p) i, c.as_slice.ensures.len, ps.full))
+    (record { to_in_bounds = omega arith; from_in_bounds = omega (arith, e, ps.inside (c.args.slot * 256 + c.loop-p.p) i, c.as_slice.ensures.len, ps.full) })
 
 pub loop-p-preserved : goal.loop-p-preserved
 loop-p-preserved c =

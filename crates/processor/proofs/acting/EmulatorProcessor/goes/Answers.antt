@@ -9,27 +9,34 @@ use Rattle.processor.proofs.acting.EmulatorProcessor.goes.Goals as goal
 
 pub returns-then-breaks-gt64 : goal.returns-then-breaks-gt64
 returns-then-breaks-gt64 c =
-    let e = c.args.self.now in
-    (c.if-breaks-gt64.true, refuses_goes (Held e) (Held e) c.args.n (breaks_of c.args.breaks.now) (omega (arith, each_length break_of c.args.breaks.now)) (λ t h. h))
+    let e = c.args.self.now in record {
+      goes = (c.if-breaks-gt64.true, refuses_goes (Held e) (Held e) c.args.n (breaks_of c.args.breaks.now) (omega (arith, each_length break_of c.args.breaks.now)) (λ t h. h));
+      wanting = tt;
+    }
 
 pub returns-in-Ok : goal.returns-in-Ok
 returns-in-Ok c =
     let e = c.args.self.now in
-    let few : length (breaks_of c.args.breaks.now) ≤ 64 = omega (arith, each_length break_of c.args.breaks.now) in (
-      omega arith,
-      goes_promise e _ c.args.n (breaks_of c.args.breaks.now) (codes c.as_slice.result.now) c.as_slice-in-Ok.result.now c.goes.result few refl refl refl
-          (ap codes c.as_slice.ensures.value) c.as_slice-in-Ok.ensures.value
-          (λ s l. c.goes.ensures.came (base_of e) s (logged_same (base_of e) e.state _ s refl refl refl refl refl c.in-Ok.ensures.items l)),
-    )
+    let few : length (breaks_of c.args.breaks.now) ≤ 64 = omega (arith, each_length break_of c.args.breaks.now) in record {
+      goes = (
+        omega arith,
+        goes_promise e _ c.args.n (breaks_of c.args.breaks.now) (codes c.as_slice.result.now) c.as_slice-in-Ok.result.now c.goes.result few refl refl refl
+            (ap codes c.as_slice.ensures.value) c.as_slice-in-Ok.ensures.value
+            (λ s l. c.goes.ensures.came (base_of e) s (logged_same (base_of e) e.state _ s refl refl refl refl refl c.in-Ok.ensures.items l)),
+      );
+      wanting = tt;
+    }
 
 pub returns-in-Err : goal.returns-in-Err
 returns-in-Err c =
     let e = c.args.self.now in
-    let k = c.in-Err.ensures in (
-      omega arith,
-      λ t h. (
-        no_room e c.args.n _ (omega arith) (omega (arith, k.room, k.grows)) t h,
-        no_room e c.args.n _ k.grows k.room t h,
-        logged_held e _ refl refl refl refl refl refl refl refl k.items t h,
-      ),
-    )
+    let k = c.in-Err.ensures in record {
+      goes = (
+        omega arith,
+        λ t h. (
+          no_room e c.args.n _ (omega arith) (omega (arith, k.room, k.grows)) t h,
+          logged_held e _ refl refl refl refl refl refl refl refl k.items t h,
+        ),
+      );
+      wanting = λ t h. no_room e c.args.n _ k.grows k.room t h;
+    }

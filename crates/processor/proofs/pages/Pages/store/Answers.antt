@@ -9,7 +9,7 @@ pub copy_page-requires : goal.copy_page-requires
 copy_page-requires c =
     let v = c.args.self.now in
     let f : c.in-Some.f < 73728 = took_inside (vec_items v.tables) (vec_items v.free) (vec_items c.pop.new.self) c.in-Some.f 65536 (omega arith) (omega (arith, v.rows, v.tables.ok.0)) c.in-Some.ensures.items v.inside v.spare v.apart v.distinct in
-    (omega (arith, c.as_mut_slice.ensures.len, v.full), omega arith)
+    (record { to_in_bounds = omega (arith, c.as_mut_slice.ensures.len, v.full); from_in_bounds = omega arith })
 
 pub invariant_of-self-2 : goal.invariant_of-self-2
 invariant_of-self-2 c =
@@ -20,28 +20,7 @@ invariant_of-self-2 c =
     let f = c.in-Some.f in
     let k : 65536 + c.args.p < 65792 = omega arith in
     let l : length ts ≡ 65792 = omega (arith, v.rows, v.tables.ok.0) in
-    let t = c.in-Some.ensures.items in (
-      v.full,
-      (
-        v.rows,
-        (
-          v.marks,
-          (
-            omega (arith, v.room, c.in-Some.ensures.capacity),
-            (
-              inside_then ts fs fs₁ f (65536 + c.args.p) k l t v.inside v.spare v.apart v.distinct,
-              (
-                free_inside_then ts fs fs₁ f (65536 + c.args.p) k l t v.inside v.spare v.apart v.distinct,
-                (
-                  apart_then ts fs fs₁ f (65536 + c.args.p) k l t v.inside v.spare v.apart v.distinct,
-                  (distinct_then ts fs fs₁ f (65536 + c.args.p) k l t v.inside v.spare v.apart v.distinct, tt),
-                ),
-              ),
-            ),
-          ),
-        ),
-      ),
-    )
+    let t = c.in-Some.ensures.items in record { full = v.full; rows = v.rows; marks = v.marks; room = omega (arith, v.room, c.in-Some.ensures.capacity); inside = inside_then ts fs fs₁ f (65536 + c.args.p) k l t v.inside v.spare v.apart v.distinct; spare = free_inside_then ts fs fs₁ f (65536 + c.args.p) k l t v.inside v.spare v.apart v.distinct; apart = apart_then ts fs fs₁ f (65536 + c.args.p) k l t v.inside v.spare v.apart v.distinct; distinct = distinct_then ts fs fs₁ f (65536 + c.args.p) k l t v.inside v.spare v.apart v.distinct }
 
 pub returns : goal.returns
 returns c =

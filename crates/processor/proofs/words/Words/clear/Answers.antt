@@ -5,7 +5,7 @@ use Rattle.processor.proofs.Flushes.{dirty_clean}
 use Rattle.processor.proofs.words.Words.clear.Goals as goal
 
 pub invariant_of-self : goal.invariant_of-self
-invariant_of-self c = let v = c.args.self.now in (v.full, (dirty_clean _ (held_word v.pages), tt))
+invariant_of-self c = let v = c.args.self.now in record { full = v.full; clean = dirty_clean _ (held_word v.pages) }
 
 pub returns : goal.returns
 returns c a =

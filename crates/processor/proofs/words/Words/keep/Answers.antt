@@ -6,14 +6,11 @@ use Rattle.processor.proofs.words.Words.keep.Goals as goal
 
 pub invariant_of-self : goal.invariant_of-self
 invariant_of-self c =
-    let v = c.args.self.now in (
-      v.full,
-      (
-        (λ a h d.
-            sym (c.copy_row.ensures.rows 256 a h ∙ pick_same (eqb 256 c.args.slot) _ ∙ c.flush.ensures.present a h ∙ ap (λ z. get_or z a 0) c.as_slice.ensures.value)),
-        tt,
-      ),
-    )
+    let v = c.args.self.now in record {
+      full = v.full;
+      clean = (λ a h d.
+          sym (c.copy_row.ensures.rows 256 a h ∙ pick_same (eqb 256 c.args.slot) _ ∙ c.flush.ensures.present a h ∙ ap (λ z. get_or z a 0) c.as_slice.ensures.value));
+    }
 
 pub returns : goal.returns
 returns c =

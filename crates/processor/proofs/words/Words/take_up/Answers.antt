@@ -10,7 +10,7 @@ invariant_of-self c =
     let v = c.args.self.now in
     let items = c.restore.new.items in
     let e = take_at items (drop (length items) v.items.items) v.items.len (omega arith) in
-    (v.full, ((λ a h d. ap (λ z. get_or z a 0) e ∙ c.restore.ensures a h ∙ sym (c.copy_row.ensures.rows 256 a h)), tt))
+    record { full = v.full; clean = (λ a h d. ap (λ z. get_or z a 0) e ∙ c.restore.ensures a h ∙ sym (c.copy_row.ensures.rows 256 a h)) }
 
 pub returns : goal.returns
 returns c =

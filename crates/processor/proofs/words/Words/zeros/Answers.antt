@@ -14,7 +14,7 @@ invariant_of-result c =
     let v = c.in_ok-items.items in
     let e = c.in_ok-items.ensures.items_if_clones_equal (λ y e. e) in
     let n : length (vec_items v) ≡ 65536 = ap length e ∙ length-replicate {A = ℕ} 65536 0 in
-    (omega (arith, v.ok.0), (dirty_clean (vec_items v) (held_word c.in_ok-pages.pages), tt))
+    record { full = omega (arith, v.ok.0); clean = dirty_clean (vec_items v) (held_word c.in_ok-pages.pages) }
 
 pub returns : goal.returns
 returns c = λ a. ap (λ z. get_or z a 0) (c.in_ok-items.ensures.items_if_clones_equal (λ y e. e)) ∙ defaults_copies {A = ℕ} 65536 0 a
