@@ -72,7 +72,7 @@ impl<P: Processor> Session<P> {
 
     // Begins anew with a program.
     pub fn load(&mut self, program: &[Instr]) -> Result<(), Refusal>
-        ensures { Loads program.now (like self.old.processor) (like self.new.processor) self.old.time self.new.time self.old.fed self.new.fed result }
+        ensures { Loads program.now (P.like self.old.processor) (P.like self.new.processor) self.old.time self.new.time self.old.fed self.new.fed result }
     {
         self.processor.begin(program)?;
         self.time = 0;
@@ -82,7 +82,7 @@ impl<P: Processor> Session<P> {
 
     // So much more comes in.
     pub fn give(&mut self, more: &[u32]) -> Result<(), Refusal>
-        ensures given { Gives more.now (like self.old.processor) (like self.new.processor) self.old.fed self.new.fed result }
+        ensures given { Gives more.now (P.like self.old.processor) (P.like self.new.processor) self.old.fed self.new.fed result }
         ensures time { self.new.time ≡ self.old.time }
     {
         if self.fed.saturating_add(more.len()) > MOST_FED {
@@ -97,7 +97,7 @@ impl<P: Processor> Session<P> {
 
     // Goes on by one stride, as far as it goes, and answers by how many steps.
     fn go(&mut self, left: u64) -> Result<u64, Refusal>
-        ensures { Strode left (like self.old.processor) (like self.new.processor) self.old.time self.new.time result }
+        ensures { Strode left (P.like self.old.processor) (P.like self.new.processor) self.old.time self.new.time result }
     {
         let most = stride(self.time, left);
         let came = self.processor.goes(most, &[])?;
@@ -109,7 +109,7 @@ impl<P: Processor> Session<P> {
 
     // Goes on by at most `n` steps, as far as it goes, and answers by how many. Where the processor fails, it stays where it came to.
     pub fn forward(&mut self, n: u64) -> Result<u64, Refusal>
-        ensures { Forwards n (like self.old.processor) (like self.new.processor) self.old.time self.new.time result }
+        ensures { Forwards n (P.like self.old.processor) (P.like self.new.processor) self.old.time self.new.time result }
     {
         let mut left = n;
         while left > 0 {
@@ -123,7 +123,7 @@ impl<P: Processor> Session<P> {
     }
 
     pub fn place(&self) -> Place
-        ensures { (result.time ≡ self.now.time) × TellsSpot (like self.now.processor) result.spot }
+        ensures { (result.time ≡ self.now.time) × TellsSpot (P.like self.now.processor) result.spot }
     {
         Place {
             time: self.time,
@@ -132,14 +132,14 @@ impl<P: Processor> Session<P> {
     }
 
     pub fn registers(&self) -> [u32; 16]
-        ensures { TellsRegs (like self.now.processor) result }
+        ensures { TellsRegs (P.like self.now.processor) result }
     {
         self.processor.registers()
     }
 
     // The words from an address on, as far as there are any.
     pub fn words(&self, heap: Global, from: u64, count: u64) -> Result<Vec<u64>, Refusal>
-        ensures { IfOk result (λ v. SeenWords from count (like self.now.processor) v.items) }
+        ensures { IfOk result (λ v. SeenWords from count (P.like self.now.processor) v.items) }
     {
         let shown = count.min(WORDS.saturating_sub(from));
         let mut seen = vec![in heap; 0; shown as usize]?;
@@ -149,7 +149,7 @@ impl<P: Processor> Session<P> {
 
     // What went out, from the given one on, no more than so many.
     pub fn outs(&self, heap: Global, from: u64, count: u64) -> Result<Vec<u64>, Refusal>
-        ensures { IfOk result (λ v. SeenOuts from count (like self.now.processor) v.items) }
+        ensures { IfOk result (λ v. SeenOuts from count (P.like self.now.processor) v.items) }
     {
         let mut seen = vec![in heap; 0; count as usize]?;
         let shown = self.processor.outs(from, seen.as_mut_slice())?;

@@ -13,11 +13,11 @@ returns g c =
     let n = stride c.args.self.now.time c.args.left in
     let before = g.P.Processor.like c.args.self.now.processor in
     let after = g.P.Processor.like c.goes.new.self in
-    let by = c.in_ok-came.branch.by in
+    let by = c.in_ok-came.came.by in
     let d =
-    subst (λ (k : ℕ). Does (goes k []) (came by c.in_ok-came.branch.hit (why_number c.in_ok-came.branch.why)) by before after)
-    c.stride-most.ensures c.in_ok-came.ensures.1 in
-    let w = went_by before after n by c.in_ok-came.branch.hit (why_number c.in_ok-came.branch.why) d in (
+    subst (λ (k : ℕ). Does (goes k []) (came by c.in_ok-came.came.hit (why_number c.in_ok-came.came.why)) by before after)
+    c.stride-most.ensures c.in_ok-came.ensures.goes.1 in
+    let w = went_by before after n by c.in_ok-came.came.hit (why_number c.in_ok-came.came.why) d in (
       omega (arith, c.min-by.ensures, c.stride-most.ensures),
       λ f. omega (arith, c.saturating_add-self.ensures),
       λ t h. ((w t h).0, omega (arith, (w t h).1, gone_few n t, c.min-by.ensures, c.stride-most.ensures)),
