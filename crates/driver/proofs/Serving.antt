@@ -8,7 +8,7 @@ use Rattle.command.specs.Breaks.{break_of, breaks_of}
 use Rattle.command.specs.declared.code.Instr.{Instr as Code}
 use Rattle.command.specs.declared.breaks.Break.{Break}
 use Rattle.target.specs.Run.{Act, starts, feeds, goes, keeps, takes_up, looks_regs, looks_words, looks_outs, looks_where, Target, next, came, saw, fresh_target}
-use Rattle.target.specs.Acts.{Does, Refuses, Begins, Feeds as Fed, Goes as Gone, Keeps as Kept, TakesUp as Took}
+use Rattle.target.specs.Acts.{Does, Refuses, Begins, Feeds as Fed, Goes as Gone, Wanting, Keeps as Kept, TakesUp as Took}
 use Rattle.target.specs.Whys.{why_number}
 use Rattle.target.specs.declared.answers.Came.{Came as Answer}
 use Rattle.target.specs.declared.answers.Fault.{Fault}
@@ -151,14 +151,14 @@ module _ (row : List ℕ) (before after : Target → Type 0) (room : ℕ) (seen 
           let s = shape a (Goes n) row₀ row told-so in
           let p = subst (λ x. FairAct x (length t.fed) f) s.1 fair in omega (arith, p.0, full t l)
 
-      pub went : (room₀ : ℕ) (r : Result Answer Fault) → Gone n bs room₀ room before after r → Serves (Goes n) row before (heard_going r) room after seen
-      went room₀ (Ok c) h = served (Goes n) (Tells (Came c)) (goes n (breaks_of bs)) goes_is h.1
-      went room₀ (Err TooLong) h = absurd h
-      went room₀ (Err TooManyBreaks) h = served (Goes n) (Over 1001) (goes n (breaks_of bs)) goes_is h.1
-      went room₀ (Err NoSuchSlot) h = absurd h
-      went room₀ (Err EmptySlot) h = absurd h
-      went room₀ (Err TooManyNumbers) h = absurd h
-      went room₀ (Err Wants) h = no_memory (λ t l. (h.1 t l).1)
+      pub went : (room₀ : ℕ) (r : Result Answer Fault) → Gone n bs room₀ before after r → Wanting n room before r → Serves (Goes n) row before (heard_going r) room after seen
+      went room₀ (Ok c) h wants = served (Goes n) (Tells (Came c)) (goes n (breaks_of bs)) goes_is h.1
+      went room₀ (Err TooLong) h wants = absurd h
+      went room₀ (Err TooManyBreaks) h wants = served (Goes n) (Over 1001) (goes n (breaks_of bs)) goes_is h.1
+      went room₀ (Err NoSuchSlot) h wants = absurd h
+      went room₀ (Err EmptySlot) h wants = absurd h
+      went room₀ (Err TooManyNumbers) h wants = absurd h
+      went room₀ (Err Wants) h wants = no_memory wants
 
   -- slots
   module _ (k : ℕ) {A : Type 0} where

@@ -43,7 +43,7 @@ fn heard_going(answer: Result<Came, Fault>) -> Heard
 }
 
 fn start<P: Processor>(p: &mut P, count: u64, row: &[u64]) -> Heard
-    ensures done { (seen : List ℕ) → Serves (Starts count) row.now (like p.old) result (room p.new) (like p.new) seen }
+    ensures done { (seen : List ℕ) → Serves (Starts count) row.now (P.like p.old) result (P.room p.new) (P.like p.new) seen }
     ensures sound { (n : ℕ) → SoundHeard result n }
 {
     if count > MOST {
@@ -59,7 +59,7 @@ fn start<P: Processor>(p: &mut P, count: u64, row: &[u64]) -> Heard
 
 fn feed<P: Processor>(p: &mut P, count: u64, row: &[u64]) -> Heard
     requires { 65536 ≤ length row.now }
-    ensures done { (seen : List ℕ) → Serves (Feeds count) row.now (like p.old) result (room p.new) (like p.new) seen }
+    ensures done { (seen : List ℕ) → Serves (Feeds count) row.now (P.like p.old) result (P.room p.new) (P.like p.new) seen }
     ensures sound { (n : ℕ) → SoundHeard result n }
 {
     if count > MOST {
@@ -75,7 +75,7 @@ fn feed<P: Processor>(p: &mut P, count: u64, row: &[u64]) -> Heard
 
 fn go<P: Processor>(p: &mut P, n: u64, row: &[u64]) -> Heard
     requires { 65536 ≤ length row.now }
-    ensures done { (seen : List ℕ) → Serves (Goes n) row.now (like p.old) result (room p.new) (like p.new) seen }
+    ensures done { (seen : List ℕ) → Serves (Goes n) row.now (P.like p.old) result (P.room p.new) (P.like p.new) seen }
     ensures sound { (n : ℕ) → SoundHeard result n }
 {
     let count = row[0];
@@ -89,14 +89,14 @@ fn go<P: Processor>(p: &mut P, n: u64, row: &[u64]) -> Heard
 }
 
 fn keep<P: Processor>(p: &mut P, slot: u64, row: &[u64]) -> Heard
-    ensures done { (seen : List ℕ) → Serves (Keeps slot) row.now (like p.old) result (room p.new) (like p.new) seen }
+    ensures done { (seen : List ℕ) → Serves (Keeps slot) row.now (P.like p.old) result (P.room p.new) (P.like p.new) seen }
     ensures sound { (n : ℕ) → SoundHeard result n }
 {
     heard(p.keep(slot))
 }
 
 fn take_up<P: Processor>(p: &mut P, slot: u64, row: &[u64]) -> Heard
-    ensures done { (seen : List ℕ) → Serves (TakesUp slot) row.now (like p.old) result (room p.new) (like p.new) seen }
+    ensures done { (seen : List ℕ) → Serves (TakesUp slot) row.now (P.like p.old) result (P.room p.new) (P.like p.new) seen }
     ensures sound { (n : ℕ) → SoundHeard result n }
 {
     heard(p.take_up(slot))
@@ -104,7 +104,7 @@ fn take_up<P: Processor>(p: &mut P, slot: u64, row: &[u64]) -> Heard
 
 fn look_at_registers<P: Processor>(p: &P, row: &[u64], seen: &mut [u64]) -> Heard
     requires { length seen.old ≡ 4096 }
-    ensures done { Serves (Looks 0) row.now (like p.now) result (room p.now) (like p.now) seen.new }
+    ensures done { Serves (Looks 0) row.now (P.like p.now) result (P.room p.now) (P.like p.now) seen.new }
     ensures sound { SoundHeard result 4096 }
 {
     let registers = p.registers();
@@ -117,7 +117,7 @@ fn look_at_registers<P: Processor>(p: &P, row: &[u64], seen: &mut [u64]) -> Hear
 fn look_at_words<P: Processor>(p: &P, row: &[u64], seen: &mut [u64]) -> Heard
     requires row { 65536 ≤ length row.now }
     requires seen { length seen.old ≡ 4096 }
-    ensures done { Serves (Looks 1) row.now (like p.now) result (room p.now) (like p.now) seen.new }
+    ensures done { Serves (Looks 1) row.now (P.like p.now) result (P.room p.now) (P.like p.now) seen.new }
     ensures sound { SoundHeard result 4096 }
 {
     let from = row[0];
@@ -134,7 +134,7 @@ fn look_at_words<P: Processor>(p: &P, row: &[u64], seen: &mut [u64]) -> Heard
 fn look_at_outs<P: Processor>(p: &P, row: &[u64], seen: &mut [u64]) -> Heard
     requires row { 65536 ≤ length row.now }
     requires seen { length seen.old ≡ 4096 }
-    ensures done { Serves (Looks 2) row.now (like p.now) result (room p.now) (like p.now) seen.new }
+    ensures done { Serves (Looks 2) row.now (P.like p.now) result (P.room p.now) (P.like p.now) seen.new }
     ensures sound { SoundHeard result 4096 }
 {
     let from = row[0];
@@ -151,7 +151,7 @@ fn look_at_outs<P: Processor>(p: &P, row: &[u64], seen: &mut [u64]) -> Heard
 fn look_where<P: Processor>(p: &P, kind: u64, row: &[u64], seen: &mut [u64]) -> Heard
     requires kind { 3 ≤ kind }
     requires seen { length seen.old ≡ 4096 }
-    ensures done { Serves (Looks kind) row.now (like p.now) result (room p.now) (like p.now) seen.new }
+    ensures done { Serves (Looks kind) row.now (P.like p.now) result (P.room p.now) (P.like p.now) seen.new }
     ensures sound { SoundHeard result 4096 }
 {
     let spot = p.spot();
@@ -163,7 +163,7 @@ fn look_where<P: Processor>(p: &P, kind: u64, row: &[u64], seen: &mut [u64]) -> 
 fn look<P: Processor>(p: &P, kind: u64, row: &[u64], seen: &mut [u64]) -> Heard
     requires row { 65536 ≤ length row.now }
     requires seen { length seen.old ≡ 4096 }
-    ensures done { Serves (Looks kind) row.now (like p.now) result (room p.now) (like p.now) seen.new }
+    ensures done { Serves (Looks kind) row.now (P.like p.now) result (P.room p.now) (P.like p.now) seen.new }
     ensures sound { SoundHeard result 4096 }
 {
     match kind {
@@ -205,7 +205,7 @@ pub fn carry<P: Processor>(
 ) -> Heard
     requires row { length row.now ≡ 65536 }
     requires seen { length seen.old ≡ 4096 }
-    ensures done { Carries told row.now (like p.old) (showed screen.old.shown screen.old.text.items) result (room p.new) (like p.new) (showed screen.new.shown screen.new.text.items) seen.new }
+    ensures done { Carries told row.now (P.like p.old) (showed screen.old.shown screen.old.text.items) result (P.room p.new) (P.like p.new) (showed screen.new.shown screen.new.text.items) seen.new }
     ensures sound { SoundHeard result 4096 }
 {
     match told {

@@ -38,7 +38,7 @@ fn carry_out<P: Processor>(
 ) -> Outcome
     requires cells { length memory.old ≡ 32000 }
     requires row { length row.old ≡ 65536 }
-    ensures { Went (like p.old) memory.old (showed screen.old.shown screen.old.text.items) text.now result (room p.new) (like p.new) memory.new (showed screen.new.shown screen.new.text.items) }
+    ensures { Went (P.like p.old) memory.old (showed screen.old.shown screen.old.text.items) text.now result (P.room p.new) (P.like p.new) memory.new (showed screen.new.shown screen.new.text.items) }
 {
     let mut seen = [0; 4096];
     let mut event = Event::Said;
@@ -60,7 +60,7 @@ fn carry_out<P: Processor>(
 
 impl<P: Processor + Drop> Debugger<P> {
     pub fn new(heap: Global, processor: P) -> Result<Debugger<P>, AllocError>
-        ensures { IfOk result (λ d. (d.processor ≡ processor) × (like processor (fresh_target []) → Stands 4294967296 core (like processor) d.memory.items first_plain)) }
+        ensures { IfOk result (λ d. (d.processor ≡ processor) × (P.like processor (fresh_target []) → Stands 4294967296 core (P.like processor) d.memory.items first_plain)) }
     {
         let memory = vec![in heap; 0; CELLS]?;
         let row = vec![in heap; 0; ROW]?;
@@ -76,8 +76,8 @@ impl<P: Processor + Drop> Debugger<P> {
     // Something is said, in bytes. From a session that stands for a plain debugger, the answer is the plain debugger's, within the steps granted,
     // and the session stands for that one.
     pub fn say(&mut self, text: &[u64]) -> Outcome
-        ensures went { Went (like self.old.processor) self.old.memory.items [] text.now result (room self.new.processor) (like self.new.processor) self.new.memory.items (showed self.new.screen.shown self.new.screen.text.items) }
-        ensures answered { (left : ℕ) (known : Command → Bool) (w : Plain) → Stands (suc left) known (like self.old.processor) self.old.memory.items w → Answered left known w text.now result (room self.new.processor) (like self.new.processor) self.new.memory.items (showed self.new.screen.shown self.new.screen.text.items) }
+        ensures went { Went (P.like self.old.processor) self.old.memory.items [] text.now result (P.room self.new.processor) (P.like self.new.processor) self.new.memory.items (showed self.new.screen.shown self.new.screen.text.items) }
+        ensures answered { (left : ℕ) (known : Command → Bool) (w : Plain) → Stands (suc left) known (P.like self.old.processor) self.old.memory.items w → Answered left known w text.now result (P.room self.new.processor) (P.like self.new.processor) self.new.memory.items (showed self.new.screen.shown self.new.screen.text.items) }
     {
         self.screen.clear();
         carry_out(

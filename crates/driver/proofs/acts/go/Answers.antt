@@ -15,6 +15,6 @@ returns g c =
     let k = c.in-Some.ensures in
     record {
       done = λ seen. as_heard _ _ _ _ seen (Goes c.args.n) c.heard_going.ensures
-          (went _ _ _ _ seen c.args.n _ (rest_all c.args.row.now) (take (get_or c.args.row.now 0 0) c.in-Some.breaks) k.0 k.1 _ c.goes.result c.goes.ensures);
+          (went _ _ _ _ seen c.args.n _ (rest_all c.args.row.now) (take (get_or c.args.row.now 0 0) c.in-Some.breaks) k.0 k.1 _ c.goes.result c.goes.ensures.goes c.goes.ensures.wanting);
       sound = came_sound c.goes.result c.heard_going.ensures;
     }

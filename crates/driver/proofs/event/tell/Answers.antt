@@ -11,7 +11,7 @@ returns-in-Said c =
 
 pub returns-in-Came : goal.returns-in-Came
 returns-in-Came c =
-    let x = c.in-Came.branch in
+    let x = c.in-Came.came in
     let s = stepped c.args.memory.now 1 x.by c.flag.result c.number_of.result _ c.args.row.now _ _ _ _
     ((λ i. came x.by (c.flag.ensures i) (c.number_of.ensures i)) ∙ sym (ap (λ e. meant e c.args.text.now c.args.seen.now) c.in-Came.is))
     c.requires.cells (lit≤ tt) c.requires.row c.step-in-Came.ensures in
