@@ -29,7 +29,7 @@ impl fmt::Write for Counter {
 
 // How many bytes a value is when it is written.
 pub(crate) fn width<D: fmt::Display>(value: &D) -> Result<usize, fmt::Error>
-    ensures { IfOk result (λ n. Wide (output value.now) n) }
+    ensures { IfOk result (λ n. Wide (D.output value.now) n) }
 {
     let mut f = fmt::Formatter::new(Counter { bytes: 0 });
     value.fmt(&mut f)?;

@@ -23,7 +23,7 @@ loop-place-preserved g c =
           let z = ap (λ (r : Bor (List ℕ)). r.now) w.separator-is in (
             (44 ∷ 32 ∷ [], (refl, sym z)),
             left_as g.W.Write.write_str_gives _ _ _ _ _ (sym (ap next z))
-                (left_less g.W.Write.write_str_gives _ _ _ _ _ _ _ _ _ _ _ (sym w.if-is_of.ensures) refl w.f-is (ap is_ok w.in_ok-write.was) w.write.ensures.shows s),
+                (left_less g.W.Write.write_str_gives _ _ _ _ _ _ _ _ _ _ _ (sym w.if-is_of.ensures) refl w.f-is (ap is_ok w.in_ok-write.was) w.write.ensures.writes s),
           )
       | else-is_of w ↦
           let z = ap (λ (r : Bor (List ℕ)). r.now) w.separator-is in

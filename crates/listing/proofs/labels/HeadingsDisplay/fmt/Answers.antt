@@ -10,7 +10,7 @@ loop-label-preserved g c =
     elim c.if-label-self.branch [
       | then-label-self+in_ok-write w ↦
           left_less g.W.Write.write_str_gives _ _ _ _ _ _ _ _ _ _ _ (eq-eqb _ _ w.if-label-self.true) (ap (λ (t : List ℕ). t ++ chars ":\n") w.as_str-name.ensures.value)
-          w.f-is (ap is_ok w.in_ok-write.was) w.write.ensures.shows s
+          w.f-is (ap is_ok w.in_ok-write.was) w.write.ensures.writes s
       | else-label-self w ↦ left_same g.W.Write.write_str_gives _ _ _ _ _ _ _ (ne_eqb _ _ w.if-label-self.false) w.f-is s
     ]
 

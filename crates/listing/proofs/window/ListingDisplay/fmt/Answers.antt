@@ -15,7 +15,7 @@ loop-place-preserved g c =
       | then-has+in_ok-write w ↦
           left_less g.W.Write.write_str_gives _ _ _ _ _ _ _ _ _ _ _ (sym w.if-has.ensures)
           (ap (λ (b : Bool). line_text (codes is) (labels_of c.args.self.now.labels.now) b c.loop-place.place (code c.instr-item.result)) w.has_arrow.ensures)
-          w.f-is (ap is_ok w.in_ok-write.was) w.write.ensures.shows s
+          w.f-is (ap is_ok w.in_ok-write.was) w.write.ensures.writes s
       | else-has w ↦ left_same g.W.Write.write_str_gives _ _ _ _ _ _ _ (sym w.if-has.ensures) w.f-is s
     ]
 
