@@ -27,7 +27,7 @@ pub struct Trial {
     ghost short: { vec_len program ≤ 4096 },
     ghost intake: { vec_len fed ≤ 65536 },
     ghost bounded: { vec_len past ≤ 1099511627776 },
-    ghost known: { (λ x. x.now) < vec_len past },
+    ghost known: { now < vec_len past },
     ghost full: { vec_len words ≡ 65536 },
     ghost few: { vec_len breaks ≤ 64 },
 }

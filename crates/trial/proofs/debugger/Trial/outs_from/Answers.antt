@@ -15,6 +15,6 @@ returns c =
     let d : b + m - b ≡ m = omega arith in
     IfOk-weaker c.from_slice.result _ _
     (λ v p w k.
-    p.0 ∙ ap (λ z. take z (drop b xs)) d ∙ window xs c.args.from c.args.count b m e f
+    p ∙ ap (λ z. take z (drop b xs)) d ∙ window xs c.args.from c.args.count b m e f
     ∙ ap (λ z. take c.args.count (drop c.args.from z)) (c.as_slice.ensures.value ∙ c.in_ok-outs.ensures w k))
-    c.from_slice.ensures.made
+    c.from_slice.ensures.items
