@@ -10,12 +10,13 @@ pub struct Input {
 }
 
 impl Input {
-    pub fn new(rt: &HostRuntime, echo: bool) -> Input {
-        Input {
-            reader: BufReader::new(rt.stdin()),
+    pub fn new(rt: &HostRuntime, echo: bool) -> io::Result<Input> {
+        let reader = BufReader::new(rt.alloc(), rt.stdin())?;
+        Ok(Input {
+            reader,
             line: Vec::new(rt.alloc()),
             echo,
-        }
+        })
     }
 
     // Asks for a line and reads it; false at the end of the input.

@@ -58,7 +58,7 @@ impl<P: Processor + Drop> Conversation<P> {
 
     // Carries out line after line, to the end of the input or quit.
     pub fn hold(&mut self, rt: &HostRuntime) -> io::Result<()> {
-        let mut input = Input::new(rt, self.echo);
+        let mut input = Input::new(rt, self.echo)?;
         for _ in 0..u64::MAX {
             if !input.next_line(rt)? {
                 break;

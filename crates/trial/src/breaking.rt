@@ -40,7 +40,7 @@ fn remove(breaks: &mut Vec<Numbered>, number: u64)
 
 impl Trial {
     pub(crate) fn add_break(&mut self, heap: Global, stop: Break) -> Result<Turn, AllocError>
-        ensures { IfOk result (λ t. (w : Plain) → Kept self.entry.now w → Answers t self.exit.now w (add_break (break_of stop))) }
+        ensures { IfOk result (λ t. (w : Plain) → Kept self.old w → Answers t self.new w (add_break (break_of stop))) }
     {
         if self.breaks.len() >= MOST_BREAKS {
             return Ok(refused(7));
@@ -56,7 +56,7 @@ impl Trial {
     }
 
     pub(crate) fn drop_break(&mut self, number: u64) -> Turn
-        ensures { (w : Plain) → Kept self.entry.now w → Answers result self.exit.now w (drop_break number) }
+        ensures { (w : Plain) → Kept self.old w → Answers result self.new w (drop_break number) }
     {
         if !has(self.breaks.as_slice(), number) {
             return refused(3);

@@ -35,7 +35,7 @@ impl Trial {
 
     // All begins anew. A program of more than 4,096 instructions is no command's.
     pub fn load(&mut self, program: &[Instr]) -> Result<Turn, AllocError>
-        ensures { IfOk result (λ t. (w : Plain) → Kept self.entry.now w → Loads t self.exit.now w program.now) }
+        ensures { IfOk result (λ t. (w : Plain) → Kept self.old w → Loads t self.new w program.now) }
     {
         if program.len() > MOST_INSTRS {
             return Ok(refused(1));
@@ -53,7 +53,7 @@ impl Trial {
 
     // The states that there were stay right, and one that waited may go on.
     pub fn give(&mut self, numbers: &[u32]) -> Result<Turn, AllocError>
-        ensures { IfOk result (λ t. (w : Plain) → Kept self.entry.now w → Turns t self.exit.now w (given numbers.now)) }
+        ensures { IfOk result (λ t. (w : Plain) → Kept self.old w → Turns t self.new w (given numbers.now)) }
     {
         if self.fed.len().saturating_add(numbers.len()) > MOST_FED {
             return Ok(refused(7));

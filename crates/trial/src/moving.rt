@@ -29,8 +29,8 @@ impl Trial {
 
     // Is there a step from here? Made, if it never was.
     fn reaches(&mut self) -> Result<bool, AllocError>
-        ensures there { IfOk result (λ b. (b ≡ true → self.exit.now.now + 1 < vec_len self.exit.now.past)) }
-        ensures tells { IfOk result (λ b. (w : Plain) → Kept self.entry.now w → (goes_on w.program w.ins w.now ≡ b) × Kept self.exit.now w) }
+        ensures there { IfOk result (λ b. (b ≡ true → self.new.now + 1 < vec_len self.new.past)) }
+        ensures tells { IfOk result (λ b. (w : Plain) → Kept self.old w → (goes_on w.program w.ins w.now ≡ b) × Kept self.new w) }
     {
         if self.now + 1 < self.past.len() {
             return Ok(true);
@@ -53,8 +53,8 @@ impl Trial {
     // On by a step that was made.
     fn redo(&mut self)
         requires { self.now.now + 1 < vec_len self.now.past }
-        ensures kept { (w : Plain) → Kept self.entry.now w → Kept self.exit.now (moved w (w.now + 1)) }
-        ensures time { self.exit.now.now ≡ self.entry.now.now + 1 }
+        ensures kept { (w : Plain) → Kept self.old w → Kept self.new (moved w (w.now + 1)) }
+        ensures time { self.new.now ≡ self.old.now + 1 }
     {
         self.now += 1;
         if let Some(w) = self.past[self.now].written {
@@ -65,8 +65,8 @@ impl Trial {
     // Back over a step.
     fn undo(&mut self)
         requires { 0 < self.now.now }
-        ensures kept { (w : Plain) → Kept self.entry.now w → Kept self.exit.now (moved w (w.now - 1)) }
-        ensures time { self.exit.now.now ≡ self.entry.now.now - 1 }
+        ensures kept { (w : Plain) → Kept self.old w → Kept self.new (moved w (w.now - 1)) }
+        ensures time { self.new.now ≡ self.old.now - 1 }
     {
         let time = self.now;
         self.now -= 1;
@@ -77,8 +77,8 @@ impl Trial {
 
     // One step on, if there is one.
     fn goes_on(&mut self) -> Result<bool, AllocError>
-        ensures goes { IfOk result (λ b. (w : Plain) → Kept self.entry.now w → (goes_on w.program w.ins w.now ≡ b) × Kept self.exit.now (moved w (pick b (w.now + 1) w.now))) }
-        ensures later { IfOk result (λ b. (b ≡ true → 0 < self.exit.now.now)) }
+        ensures goes { IfOk result (λ b. (w : Plain) → Kept self.old w → (goes_on w.program w.ins w.now ≡ b) × Kept self.new (moved w (pick b (w.now + 1) w.now))) }
+        ensures later { IfOk result (λ b. (b ≡ true → 0 < self.new.now)) }
     {
         if !self.reaches()? {
             return Ok(false);
@@ -101,7 +101,7 @@ impl Trial {
     }
 
     pub(crate) fn forward(&mut self, most: u64) -> Result<(), AllocError>
-        ensures { OnOk result ((w : Plain) → Kept self.entry.now w → Kept self.exit.now (moved w (on_till w [] w.now most))) }
+        ensures { OnOk result ((w : Plain) → Kept self.old w → Kept self.new (moved w (on_till w [] w.now most))) }
     {
         for _i in 0..most {
             if !self.goes_on()? {
@@ -113,7 +113,7 @@ impl Trial {
 
     // On, till a break holds.
     pub(crate) fn run(&mut self, most: u64) -> Result<(), AllocError>
-        ensures { OnOk result ((w : Plain) → Kept self.entry.now w → Kept self.exit.now (moved w (on_till w w.breaks w.now most))) }
+        ensures { OnOk result ((w : Plain) → Kept self.old w → Kept self.new (moved w (on_till w w.breaks w.now most))) }
     {
         for _i in 0..most {
             if !self.goes_on()? {
@@ -127,8 +127,8 @@ impl Trial {
     }
 
     pub(crate) fn back(&mut self, most: u64)
-        ensures kept { (w : Plain) → Kept self.entry.now w → Kept self.exit.now (moved w (w.now - most)) }
-        ensures time { self.exit.now.now ≡ self.entry.now.now - most }
+        ensures kept { (w : Plain) → Kept self.old w → Kept self.new (moved w (w.now - most)) }
+        ensures time { self.new.now ≡ self.old.now - most }
     {
         for _i in 0..most {
             if self.now == 0 {
@@ -140,7 +140,7 @@ impl Trial {
 
     // Back, till a break holds.
     pub(crate) fn rerun(&mut self, most: u64)
-        ensures { (w : Plain) → Kept self.entry.now w → Kept self.exit.now (moved w (back_till w w.breaks w.now most)) }
+        ensures { (w : Plain) → Kept self.old w → Kept self.new (moved w (back_till w w.breaks w.now most)) }
     {
         for _i in 0..most {
             if self.now == 0 {

@@ -75,7 +75,7 @@ fn grant(order: Order, from: usize, to: usize, reply: u64) -> u64
 impl Trial {
     // Carries out a command.
     pub fn turn(&mut self, heap: Global, order: Order) -> Result<Turn, AllocError>
-        ensures { IfOk result (λ t. (w : Plain) → Kept self.entry.now w → Turns t self.exit.now w (meant order)) }
+        ensures { IfOk result (λ t. (w : Plain) → Kept self.old w → Turns t self.new w (meant order)) }
     {
         let from = self.now;
         let mut turn = self.answer(heap, order)?;
@@ -84,7 +84,7 @@ impl Trial {
     }
 
     fn answer(&mut self, heap: Global, order: Order) -> Result<Turn, AllocError>
-        ensures { IfOk result (λ t. (w : Plain) → Kept self.entry.now w → Answers t self.exit.now w (meant order)) }
+        ensures { IfOk result (λ t. (w : Plain) → Kept self.old w → Answers t self.new w (meant order)) }
     {
         match order {
             Order::Forward(n) => {
@@ -120,7 +120,7 @@ impl Trial {
     }
 
     fn changer(&mut self, heap: Global, place: u64) -> Result<Turn, AllocError>
-        ensures { IfOk result (λ t. (w : Plain) → Kept self.entry.now w → Answers t self.exit.now w (change place)) }
+        ensures { IfOk result (λ t. (w : Plain) → Kept self.old w → Answers t self.new w (change place)) }
     {
         let Some(time) = self.last_change(place) else {
             return Ok(refused(3));
