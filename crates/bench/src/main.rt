@@ -1,6 +1,7 @@
 // How quick it is: 40 million steps of a program on the processor, plain, with states kept, with breaks; states taken up; and the same through the whole
 // debugger. With no program, nothing.
 #![tactic(auto)]
+
 mod whole;
 
 use anyhow::anyhow;
@@ -20,9 +21,9 @@ const STRIDES: u64 = 10000;
 
 fn told(fault: Fault) -> anyhow::Error {
     match fault {
-        Fault::TooLong => "more than 4,096 instructions".into(),
-        Fault::NoMemory => "no memory".into(),
-        _ => "the processor refused".into(),
+        Fault::TooLong => anyhow!("more than 4,096 instructions"),
+        Fault::NoMemory => anyhow!("no memory"),
+        _ => anyhow!("the processor refused"),
     }
 }
 

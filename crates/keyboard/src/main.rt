@@ -1,5 +1,6 @@
 // The debugger at the keyboard: opens a session on a program's file, or on none, and carries out what is typed.
 #![tactic(auto)]
+
 mod arguments;
 
 use arguments::Arguments;

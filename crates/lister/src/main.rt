@@ -1,5 +1,6 @@
 // Lists the program of a file: source text, or the bytes that spell a program.
 #![tactic(auto)]
+
 mod programs;
 #[cfg(test)]
 mod tests;

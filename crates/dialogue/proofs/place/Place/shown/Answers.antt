@@ -27,8 +27,8 @@ three (a ∷ b ∷ c ∷ d ∷ ns) n h e = absurd (omega arith)
 placed : (ns : List ℕ) (y z : Option Why) → y ≡ z → length ns ≡ 3 → get_or ns 2 0 ≡ why_number z → get_or ns 0 0 ∷ get_or ns 1 0 ∷ why_number y ∷ [] ≡ ns
 placed ns y z r h e = three ns (why_number y) h (e ∙ sym (ap why_number r))
 
-pub returns-in-default-number : goal.returns-in-default-number
-returns-in-default-number c p e =
+pub returns-in_default-number : goal.returns-in_default-number
+returns-in_default-number c p e =
     no_other p.why (get_or c.args.numbers.now 2 0) (ap (λ (ns : List ℕ). get_or ns 2 0) e)
     (λ z. omega (arith, z)) (λ z. omega (arith, z)) (λ z. omega (arith, z)) (λ z. omega (arith, z)) (λ z. omega (arith, z)) (λ z. omega (arith, z))
 
