@@ -1,5 +1,5 @@
 -- Each instruction is read back from its text. Assumes nothing.
-use Rattle.std.proofs.Common.{◌≡◌, ℕ, zero, suc, ◌^◌, ◌<◌, Bool, true, false, ◌&&◌, List, [], ◌∷◌, ◌++◌, length, Some, None, codes as chars, decimal, Option, sym, refl, ap, ◌∙◌, append-nil, arith}
+use Rattle.std.proofs.Common.{◌≡◌, ℕ, zero, suc, ◌<◌, true, false, List, [], ◌∷◌, ◌++◌, Some, None, codes as chars, decimal, refl, ap, ◌∙◌, arith}
 use Rattle.std.proofs.lemmas.Bool.Decides.{nat_tests}
 use Rattle.command.specs.Machine.{every, Instr, load_number, copy, reckon, read, write, jump, jump_if, call, return, take_in, put_out, halt}
 use Rattle.command.specs.Plain.{an_instr}
@@ -7,7 +7,7 @@ use Rattle.assembler.specs.declared.words.Class.TheVariants.{Line}
 use Rattle.assembler.specs.Words.{digit, in_class, front, past, spaced, separated, over}
 use Rattle.assembler.specs.Names.{op_name, comparison_name}
 use Rattle.assembler.specs.Reading.{Got, got, bind, label, ended}
-use Rattle.assembler.specs.Instructions.{register, next_register, next_number, next_offset, operation, comparison, place, load_operands, copy_operands, reckon_operands, word_operands, jump_if_operands, jump_operands, to_place, one_register, jump_by, instruction}
+use Rattle.assembler.specs.Instructions.{register, next_register, next_number, next_offset, operation, comparison, place, load_operands, copy_operands, reckon_operands, word_operands, jump_operands, to_place, one_register, jump_by, instruction}
 use Rattle.assembler.specs.Listing.{two, three, instr_text}
 use Rattle.assembler.proofs.Numerals.{Numeral, numeral, every_append, every_from, digit_line, spaced_at, register_at, next_register_at, spaced_last, register_last, next_register_last, next_number_last, next_offset_last, place_last, next_place_last, comparison_last}
 

@@ -1,12 +1,12 @@
 -- A text line by line, and both passes over it. Assumes nothing.
-use Rattle.std.proofs.Common.{◌≡◌, ℕ, suc, ◌+◌, ◌<◌, Bool, true, false, eqb, List, [], ◌∷◌, ◌++◌, length, IsErrAnd, Some, None, Ok, Err, Option, Result, unwrap_or, sym, refl, ap, ◌∙◌, subst, ⊎_elim, arith}
+use Rattle.std.proofs.Common.{◌≡◌, ℕ, ◌+◌, ◌<◌, true, false, eqb, List, [], ◌∷◌, length, IsErrAnd, Ok, Err, Option, Result, sym, refl, ap, ◌∙◌, subst, ⊎_elim, arith}
 use Rattle.std.proofs.lemmas.List.{nil_from_length}
 use Rattle.std.proofs.lemmas.Bool.{cases_Bool}
-use Rattle.command.specs.Machine.{pick, each, Instr}
+use Rattle.command.specs.Machine.{Instr}
 use Rattle.assembler.specs.declared.mistakes.AssembleError.{AssembleError}
 use Rattle.assembler.specs.declared.mistakes.AssembleError.TheVariants.{Wrong, NoMemory}
 use Rattle.assembler.specs.declared.words.Class.TheVariants.{Line}
-use Rattle.assembler.specs.Words.{front, past, behind, in_class, line_of, after_line}
+use Rattle.assembler.specs.Words.{front, past, in_class, line_of, after_line}
 use Rattle.assembler.specs.Instructions.{Label}
 use Rattle.assembler.specs.Source.{lines, onto, Mistake, mistake_of, line_label, with_label, find_labels, Answers, line_instr, with_instr, read_lines}
 use Rattle.assembler.proofs.Runs.{front_on, front_off, past_on, past_off}

@@ -1,8 +1,8 @@
 -- Listings, line by line. Assumes nothing.
-use Rattle.std.proofs.Common.{◌≡◌, ℕ, ◌+◌, ◌<◌, List, [], ◌∷◌, ◌++◌, length, get_or, take, sym, refl, ap, ◌∙◌, append_assoc, append-nil}
+use Rattle.std.proofs.Common.{◌≡◌, ℕ, ◌+◌, ◌<◌, List, [], ◌∷◌, ◌++◌, length, get_or, take, sym, ap, ◌∙◌, append_assoc, append-nil}
 use Rattle.std.proofs.lemmas.List.{take_more}
 use Rattle.command.specs.Codes.{code, codes}
-use Rattle.command.specs.Machine.{each, flat, Instr}
+use Rattle.command.specs.Machine.{each, flat}
 use Rattle.command.specs.declared.code.Instr.{Instr as Code}
 use Rattle.assembler.specs.Listing.{instr_line, listing}
 

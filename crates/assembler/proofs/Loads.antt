@@ -1,9 +1,9 @@
 -- What assembles may be loaded: each instruction fits, and there are not too many. Assumes nothing.
-use Rattle.std.proofs.Common.{◌≡◌, ℕ, suc, ◌+◌, ◌*◌, ◌<◌, ◌≤◌, Bool, true, false, ◌&&◌, eqb, ltb, List, [], ◌∷◌, ◌++◌, length, is_some, Some, None, Ok, Err, codes as chars, Option, Result, unwrap_or, sym, refl, ap, ◌∙◌, subst, arith, length-append}
+use Rattle.std.proofs.Common.{◌≡◌, ℕ, ◌+◌, ◌*◌, ◌<◌, ◌≤◌, Bool, true, false, ◌&&◌, eqb, ltb, List, [], ◌∷◌, ◌++◌, length, is_some, Some, None, Ok, Err, codes as chars, Option, Result, unwrap_or, refl, subst, arith, length-append}
 use Rattle.std.proofs.lemmas.Bool.{lt-ltb, ltb-true, and_from, and_parts}
 use Rattle.std.specs.Option.{ok_or}
 use Rattle.std.specs.Str.{bytes_eq}
-use Rattle.command.specs.Machine.{pick, every, Instr, load_number, copy, reckon, read, write, jump, jump_if, call, return, take_in, put_out, halt}
+use Rattle.command.specs.Machine.{pick, every, Instr, load_number, copy, reckon, read, write, jump, jump_if, call, take_in, put_out}
 use Rattle.command.specs.Plain.{an_instr}
 use Rattle.assembler.specs.declared.mistakes.Expected.{Expected}
 use Rattle.assembler.specs.declared.mistakes.Expected.TheVariants as expected

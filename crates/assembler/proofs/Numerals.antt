@@ -1,14 +1,14 @@
 -- Numbers as they are listed, read back. Assumes nothing.
-use Rattle.std.proofs.Common.{◌≡◌, ℕ, zero, suc, ◌+◌, ◌*◌, ◌/◌, ◌%◌, ◌^◌, ◌<◌, ◌≤◌, Bool, true, false, ◌&&◌, eqb, ltb, leb, List, [], ◌∷◌, ◌++◌, length, Some, None, Ok, Err, codes as chars, decimal, Option, unwrap_or, sym, refl, ap, ◌∙◌, subst, ⊎_elim, append_assoc, append-nil, arith, length-append}
+use Rattle.std.proofs.Common.{◌≡◌, ℕ, ◌+◌, ◌*◌, ◌/◌, ◌%◌, ◌^◌, ◌<◌, ◌≤◌, Bool, true, false, ◌&&◌, eqb, List, [], ◌∷◌, ◌++◌, length, Some, None, Ok, codes as chars, decimal, Option, sym, refl, ap, ◌∙◌, ⊎_elim, append_assoc, append-nil, arith, length-append}
 use Rattle.std.proofs.lemmas.Fmt.{decimal_by_steps}
 use Rattle.std.proofs.lemmas.Bool.{lt-ltb, and_parts, cases_Bool}
 use Rattle.std.proofs.lemmas.Bool.Decides.{nat_tests}
 use Rattle.std.specs.Option.{ok_or}
 use Rattle.std.specs.Str.{bytes_eq}
-use Rattle.command.specs.Machine.{pick, or, every}
-use Rattle.assembler.specs.declared.words.Class.TheVariants.{Blank, Word, Name, Line}
+use Rattle.command.specs.Machine.{pick, every}
+use Rattle.assembler.specs.declared.words.Class.TheVariants.{Blank, Word, Line}
 use Rattle.assembler.specs.declared.mistakes.Expected.TheVariants as expected
-use Rattle.assembler.specs.Words.{digit, letter, blank, in_class, front, past, behind, word, past_word, spaced, separated, a_name, digit_of, value_on, value_below, hex_digits, number_below}
+use Rattle.assembler.specs.Words.{digit, letter, in_class, front, past, word, past_word, spaced, separated, digit_of, value_on, hex_digits, number_below}
 use Rattle.assembler.specs.Names.{comparison_named}
 use Rattle.assembler.specs.Reading.{Got, got, meant, a_word}
 use Rattle.assembler.specs.Instructions.{register_named, place_named, register, next_register, next_number, next_offset, place, comparison, below, if_named}

@@ -1,16 +1,16 @@
 -- A listing assembles to the program that it lists. Assumes nothing.
-use Rattle.std.proofs.Common.{◌≡◌, ℕ, suc, ◌+◌, ◌<◌, ◌≤◌, Bool, true, false, not, ◌&&◌, eqb, ltb, List, [], ◌∷◌, ◌++◌, length, Some, None, Ok, Err, Option, Result, sym, refl, ap, ◌∙◌, append_assoc, append-nil, arith}
+use Rattle.std.proofs.Common.{◌≡◌, ℕ, ◌+◌, ◌<◌, ◌≤◌, true, eqb, ltb, List, [], ◌∷◌, ◌++◌, length, Some, None, Ok, Err, Option, Result, sym, refl, ap, ◌∙◌, append_assoc, append-nil, arith}
 use Rattle.std.proofs.lemmas.Bool.{lt-ltb, and_parts, not-true}
 use Rattle.command.specs.Machine.{pick, every, each, Instr}
 use Rattle.command.specs.Plain.{an_instr}
 use Rattle.assembler.specs.declared.words.Class.TheVariants.{Line}
 use Rattle.assembler.specs.declared.mistakes.Expected.TheVariants as expected
-use Rattle.assembler.specs.Words.{in_class, over}
-use Rattle.assembler.specs.Reading.{Got, got, bind}
+use Rattle.assembler.specs.Words.{in_class}
+use Rattle.assembler.specs.Reading.{got, bind}
 use Rattle.assembler.specs.Instructions.{Label, instruction}
 use Rattle.assembler.specs.Source.{Mistake, Assembly, lines, onto, on_line, unless_known, then_placed, next_place, line_label, with_label, find_labels, unless_over, line_instr, with_instr, read_lines, by_labels, assembled}
 use Rattle.assembler.specs.Listing.{instr_text, listing}
-use Rattle.assembler.specs.Again.{Loadable, Assembles, ListedBack, ListedOnce}
+use Rattle.assembler.specs.Again.{ListedBack, ListedOnce}
 use Rattle.assembler.proofs.Back.{ReadsBack, reads_back}
 
 lines_line : (l t : List ℕ) → every (in_class Line) l ≡ true → lines (l ++ 10 ∷ t) ≡ l ∷ lines t

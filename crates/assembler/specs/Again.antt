@@ -3,7 +3,7 @@ use Rattle.std.specs.Prelude.{◌≡◌, ℕ, ◌≤◌, true, List, [], length,
 use Rattle.command.specs.Machine.{every, Instr}
 use Rattle.command.specs.Plain.{an_instr}
 use Rattle.assembler.specs.Listing.{listing}
-use Rattle.assembler.specs.Source.{Assembly, assembled}
+use Rattle.assembler.specs.Source.{assembled}
 
 -- a program that may be loaded
 pub record Loadable (is : List Instr) : Type 0 where

@@ -1,5 +1,5 @@
 -- One instruction of a line: its mnemonic and its operands. Assumes nothing: these are definitions.
-use Rattle.std.specs.Prelude.{ℕ, Bool, true, false, List, [], ◌∷◌, Some, None, Ok, Err, string_bytes, codes, Option, Result}
+use Rattle.std.specs.Prelude.{ℕ, List, [], ◌∷◌, Some, None, string_bytes, codes, Option, Result}
 use Rattle.std.specs.Option.{ok_or, unwrap_or, option_map}
 use Rattle.std.specs.Str.{bytes_eq}
 use Rattle.command.specs.Machine.{pick, each, Instr, load_number, copy, reckon, read, write, jump, jump_if, call, return, take_in, put_out, halt}

@@ -1,5 +1,5 @@
 -- The names of instructions, operations and comparisons. Assumes nothing: these are definitions.
-use Rattle.std.specs.Prelude.{ℕ, ◌+◌, Bool, true, false, List, [], ◌∷◌, get_or, Some, None, codes, Option, slice_index_or}
+use Rattle.std.specs.Prelude.{ℕ, List, [], ◌∷◌, get_or, Some, None, codes, Option, slice_index_or}
 use Rattle.std.specs.Str.{bytes_eq}
 use Rattle.command.specs.Machine.{pick}
 use Rattle.assembler.specs.declared.names.Mnemonic.{Mnemonic}

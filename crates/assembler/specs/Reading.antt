@@ -1,6 +1,6 @@
 -- Reading what is left of a line. Assumes nothing: these are definitions.
 -- A reader gives a value and what is left behind it, or says what it expected, and what was left where that failed.
-use Rattle.std.specs.Prelude.{◌≡◌, ℕ, Bool, true, false, List, [], ◌∷◌, Some, None, Ok, Err, Option, Result}
+use Rattle.std.specs.Prelude.{◌≡◌, ℕ, true, List, Some, None, Ok, Err, Option, Result}
 use Rattle.std.specs.Borrow.{Bor}
 use Rattle.std.specs.Option.{ok_or, option_map}
 use Rattle.command.specs.Machine.{pick}

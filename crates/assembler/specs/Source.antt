@@ -1,5 +1,5 @@
 -- What a source text assembles to: its labels in one pass, its instructions in another, or its first mistake. Assumes nothing: these are definitions.
-use Rattle.std.specs.Prelude.{◌≡◌, ℕ, ◌+◌, ◌-◌, Bool, true, false, List, [], ◌∷◌, ◌++◌, length, take, is_some, Some, None, Ok, Err, vec_items, string_bytes, codes as chars, decimal, Option, Result, ◌==◌, nat_lt}
+use Rattle.std.specs.Prelude.{◌≡◌, ℕ, ◌+◌, ◌-◌, List, [], ◌∷◌, ◌++◌, length, take, is_some, Some, None, Ok, Err, vec_items, string_bytes, codes as chars, decimal, Option, Result, ◌==◌, nat_lt}
 use Rattle.std.specs.Borrow.{Bor}
 use Rattle.std.specs.Option.{option_map}
 use Rattle.command.specs.Codes.{code, codes}

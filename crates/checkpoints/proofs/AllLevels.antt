@@ -1,11 +1,11 @@
 -- All levels go back, the highest first. Assumes nothing.
 use Rattle.std.proofs.Common.{◌≡◌, ℕ, zero, suc, ◌+◌, ◌-◌, ◌*◌, ◌/◌, ◌%◌, ◌<◌, ◌≤◌, ◌≢◌, ◌⊎◌, List, [], ◌∷◌, length, sym, refl, ap, ◌∙◌, subst, inl, inr, ⊎_elim, mul-le-mul_right, arith}
-use mathlib.Core.Option.{Option, none, some}
+use mathlib.Core.Option.{some}
 use Rattle.std.proofs.lemmas.Bool.{cases_eq, cases_lt}
-use Rattle.checkpoints.specs.Slots.{Table, Act, take, go, keep, Runs}
-use Rattle.checkpoints.specs.Policy.{time, slot, Spot, spot, above, levels_back, levels_gaps, move_levels, settle, back, back_gaps}
-use Rattle.checkpoints.specs.Ready.{Points, Built, Below, Level, Levels, Ready}
-use Rattle.checkpoints.proofs.Tables.{slot_in, Others}
+use Rattle.checkpoints.specs.Slots.{Table, Act, take, go, Runs}
+use Rattle.checkpoints.specs.Policy.{Spot, spot, above, levels_back, levels_gaps, move_levels, settle, back, back_gaps}
+use Rattle.checkpoints.specs.Ready.{Points, Below, Level, Levels, Ready}
+use Rattle.checkpoints.proofs.Tables.{slot_in}
 use Rattle.checkpoints.proofs.Carried.{Goal, runs_less}
 use Rattle.checkpoints.proofs.Plans.{Over}
 use Rattle.checkpoints.proofs.OneLevel.{time_of, Fits, Before, level_runs}

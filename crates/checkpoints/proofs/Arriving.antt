@@ -1,12 +1,12 @@
 -- The acts of beginning and of arriving by their numbers, and the gaps that become 0. Assumes nothing.
-use Rattle.std.proofs.Common.{◌≡◌, ℕ, zero, suc, ◌+◌, ◌-◌, ◌*◌, ◌/◌, ◌%◌, ◌^◌, ◌<◌, ◌≤◌, Bool, true, false, cond, leb, List, [], ◌∷◌, ◌++◌, length, drop, replicate, Some, None, Option, sym, refl, ap, ◌∙◌, arith}
+use Rattle.std.proofs.Common.{◌≡◌, ℕ, zero, suc, ◌+◌, ◌-◌, ◌*◌, ◌/◌, ◌%◌, ◌^◌, ◌<◌, ◌≤◌, Bool, true, false, cond, leb, List, [], ◌∷◌, ◌++◌, length, drop, replicate, Some, None, Option, refl, ap, ◌∙◌, arith}
 use mathlib.Core.Option.{none, some}
 use Rattle.std.proofs.lemmas.Bool.{leb-true, leb-false}
-use Rattle.checkpoints.specs.Numbers.{fan, levels, level_slots, top_points, slots, most_time}
+use Rattle.checkpoints.specs.Numbers.{fan, levels, top_points}
 use Rattle.checkpoints.specs.Slots.{Act, keep, act_at}
 use Rattle.checkpoints.specs.Policy.{slot, start, arrive, arrive_in, gaps_in, arrive_gaps}
 use Rattle.checkpoints.specs.Arrivals.{as_keep, SlotFew, beginning_slot, arrival_in, arrival_top, arrival_from, arrival_slot, reached_in, reached, levels_reached}
-use Rattle.checkpoints.specs.Statements.{Gaps, BeginsSo, ArrivesSo, ReachesSo}
+use Rattle.checkpoints.specs.Statements.{BeginsSo, ArrivesSo, ReachesSo}
 use Rattle.checkpoints.proofs.Tables.{slot_small}
 use Rattle.checkpoints.proofs.Stand.{room}
 

@@ -1,5 +1,5 @@
 -- Plans that can be carried out: what holds of any of them. Assumes nothing.
-use Rattle.std.proofs.Common.{◌≡◌, ℕ, ◌+◌, ◌≤◌, List, [], ◌∷◌, ◌++◌, arith}
+use Rattle.std.proofs.Common.{ℕ, ◌+◌, ◌≤◌, List, [], ◌∷◌, ◌++◌, arith}
 use Rattle.checkpoints.specs.Slots.{Table, put, Act, take, go, keep, Runs}
 
 -- what comes to hold of table, time and steps

@@ -1,11 +1,11 @@
 -- No plan speaks of a slot past the last: what can be carried out where only the slots hold anything takes up no other. Assumes nothing.
-use Rattle.std.proofs.Common.{◌≡◌, ℕ, zero, suc, ◌+◌, ◌-◌, ◌*◌, ◌/◌, ◌%◌, ◌<◌, ◌≤◌, Bool, true, false, cond, ltb, ◌⊎◌, List, [], ◌∷◌, length, sym, refl, ap, ◌∙◌, inl, inr, ⊎_elim, arith}
-use mathlib.Core.Option.{Option, none, some}
+use Rattle.std.proofs.Common.{◌≡◌, ℕ, ◌+◌, ◌/◌, ◌<◌, ◌≤◌, cond, ltb, List, [], ◌∷◌, refl, ◌∙◌, ⊎_elim, arith}
+use mathlib.Core.Option.{none}
 use Rattle.std.proofs.lemmas.Bool.{cases_lt, lt-ltb, le-ltb}
-use Rattle.checkpoints.specs.Numbers.{stride, levels, slots, here, most_time}
+use Rattle.checkpoints.specs.Numbers.{slots, here}
 use Rattle.checkpoints.specs.Slots.{Table, put, Act, take, go, keep, Runs, Few}
 use Rattle.checkpoints.specs.Ready.{Ready}
-use Rattle.checkpoints.specs.Statements.{Gaps, SlotsFew, Starts, Restarts, ArrivesReady, GoesForward, MovesLevels, Settles, GoesBack, FindsBack, FindsNone}
+use Rattle.checkpoints.specs.Statements.{SlotsFew, Starts, Restarts, ArrivesReady, GoesForward, MovesLevels, Settles, GoesBack, FindsBack, FindsNone}
 use Rattle.checkpoints.proofs.Tables.{put_else}
 use Rattle.checkpoints.proofs.Carried.{Goal}
 use Rattle.checkpoints.proofs.Search.{ready_low}

@@ -1,5 +1,5 @@
 -- One turn of a loop over the levels: the last kept state. Assumes nothing.
-use Rattle.std.proofs.Common.{◌≡◌, ℕ, zero, suc, ◌+◌, ◌-◌, ◌*◌, ◌/◌, ◌%◌, ◌^◌, ◌<◌, ◌≤◌, List, [], ◌∷◌, length, get_or, drop, sym, refl, ap, ◌∙◌, subst, mul-le-mul_right, pow-suc, arith, drop-cons}
+use Rattle.std.proofs.Common.{◌≡◌, ℕ, zero, suc, ◌+◌, ◌-◌, ◌*◌, ◌/◌, ◌%◌, ◌^◌, ◌<◌, ◌≤◌, List, [], ◌∷◌, length, get_or, drop, sym, ap, ◌∙◌, arith, drop-cons}
 use native.Mathlib.Nat.{pow-le-pow_right}
 use Rattle.checkpoints.specs.Numbers.{slots, most_time}
 use Rattle.checkpoints.specs.Policy.{time, slot, Kept, kept, last_in, last_at, last_from, last_kept}

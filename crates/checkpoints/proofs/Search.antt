@@ -1,14 +1,13 @@
 -- Looking back for what is at u. Assumes nothing.
-use Rattle.std.proofs.Common.{◌≡◌, ℕ, zero, suc, ◌+◌, ◌-◌, ◌*◌, ◌/◌, ◌%◌, ◌^◌, ◌<◌, ◌≤◌, max, ◌≢◌, ◌⊎◌, List, [], ◌∷◌, length, sym, refl, ap, ◌∙◌, subst, inl, inr, ⊎_elim, arith}
-use mathlib.Core.Option.{Option, none, some}
+use Rattle.std.proofs.Common.{◌≡◌, ℕ, zero, suc, ◌+◌, ◌-◌, ◌*◌, ◌/◌, ◌%◌, ◌^◌, ◌<◌, ◌≤◌, max, List, [], ◌∷◌, length, refl, ◌∙◌, arith}
 use Rattle.checkpoints.specs.Numbers.{here, hit}
 use Rattle.checkpoints.specs.Slots.{Table, put, Act, Runs}
-use Rattle.checkpoints.specs.Policy.{spot, Kept, last_kept, look_in, look, search_back, search_none, back_gaps}
-use Rattle.checkpoints.specs.Ready.{Level, Levels, Ready}
+use Rattle.checkpoints.specs.Policy.{spot, last_kept, look_in, look, search_back, search_none, back_gaps}
+use Rattle.checkpoints.specs.Ready.{Levels, Ready}
 use Rattle.checkpoints.proofs.Tables.{put_here, put_else}
 use Rattle.checkpoints.proofs.Carried.{Goal}
 use Rattle.checkpoints.proofs.AllLevels.{level_left, move_runs}
-use Rattle.checkpoints.proofs.Looking.{Near, near_kept}
+use Rattle.checkpoints.proofs.Looking.{near_kept}
 
 -- what is ready speaks of no spare slot
 levels_low : (v g : ℕ) (T T' : Table) (n r : ℕ) (ss : List ℕ) → v + length ss ≤ 15 → n < 30 * 8 ^ length ss → ((k : ℕ) → k < here → T' k ≡ T k) →

@@ -1,9 +1,9 @@
 -- The statements. Assumes nothing.
-use Rattle.std.proofs.Common.{◌≡◌, ℕ, zero, suc, ◌+◌, ◌-◌, ◌*◌, ◌/◌, ◌%◌, ◌^◌, ◌<◌, ◌≤◌, min, max, List, [], ◌∷◌, length, sym, refl, ap, ◌∙◌, subst, subst₂, mul-le-mul_right, arith}
-use mathlib.Core.Option.{Option, none, some}
-use Rattle.checkpoints.specs.Numbers.{stride, levels, slots, most_time}
-use Rattle.checkpoints.specs.Slots.{Table, Runs}
-use Rattle.checkpoints.specs.Policy.{gaps_in, arrive_gaps, strides_gaps, forward, forward_gaps, level_gap, levels_gaps, back_gaps, last_kept}
+use Rattle.std.proofs.Common.{◌≡◌, ℕ, zero, suc, ◌+◌, ◌-◌, ◌*◌, ◌/◌, ◌%◌, ◌^◌, ◌<◌, ◌≤◌, List, [], ◌∷◌, length, refl, ap, ◌∙◌, subst₂, mul-le-mul_right, arith}
+use mathlib.Core.Option.{none}
+use Rattle.checkpoints.specs.Numbers.{most_time}
+use Rattle.checkpoints.specs.Slots.{Runs}
+use Rattle.checkpoints.specs.Policy.{gaps_in, arrive_gaps, strides_gaps, forward_gaps, level_gap, levels_gaps, back_gaps}
 use Rattle.checkpoints.specs.Ready.{Levels, Ready}
 use Rattle.checkpoints.specs.Statements.{Small, Gaps, SlotsApart, CanBeReady, Starts, Restarts, StaysReady, ArrivesReady, GoesForward, MovesLevels, Settles, GoesBack, KeptNear, FindsBack, FindsNone}
 use Rattle.checkpoints.proofs.Tables.{slot_in, points_apart, blocks_apart}

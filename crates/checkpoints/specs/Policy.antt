@@ -1,5 +1,5 @@
 -- The mirror policy: which slot a time has, and what is done going forward and back. Every plan takes what is done after it, `rest`. Assumes nothing.
-use Rattle.std.specs.Prelude.{◌≡◌, ℕ, zero, suc, ◌+◌, ◌-◌, ◌*◌, ◌/◌, ◌%◌, min, Bool, true, false, cond, List, [], ◌∷◌, length, ◌==◌}
+use Rattle.std.specs.Prelude.{ℕ, zero, suc, ◌+◌, ◌-◌, ◌*◌, ◌/◌, ◌%◌, min, cond, List, [], ◌∷◌, length, ◌==◌}
 use Rattle.checkpoints.specs.Numbers.{stride, fan, level_slots, here, hit}
 use Rattle.checkpoints.specs.Slots.{Act, take, go, keep}
 

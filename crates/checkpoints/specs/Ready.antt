@@ -1,6 +1,6 @@
 -- What is kept at a time: the invariant of the checkpoints. Assumes nothing.
 use Rattle.std.specs.Prelude.{◌≡◌, ℕ, zero, suc, ◌+◌, ◌-◌, ◌*◌, ◌/◌, ◌%◌, ◌≤◌, List, [], ◌∷◌}
-use Rattle.std.proofs.Math.Option.{Option, none, some}
+use Rattle.std.proofs.Math.Option.{some}
 use Rattle.checkpoints.specs.Numbers.{stride, fan, level_slots}
 use Rattle.checkpoints.specs.Slots.{Table}
 use Rattle.checkpoints.specs.Policy.{time, slot, Spot, spot}

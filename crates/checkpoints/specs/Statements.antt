@@ -1,7 +1,7 @@
 -- What the checkpoints are for: going on and back, and looking back, each within its steps. Each is a statement; a function of src/statements.rt has it as
 -- its contract. Assumes nothing.
-use Rattle.std.specs.Prelude.{◌≡◌, ℕ, zero, suc, ◌+◌, ◌-◌, ◌*◌, ◌/◌, ◌^◌, ◌<◌, ◌≤◌, max, ◌≢◌, List, [], ◌∷◌, ◌++◌, length, drop, replicate}
-use Rattle.std.proofs.Math.Option.{Option, some}
+use Rattle.std.specs.Prelude.{◌≡◌, ℕ, suc, ◌+◌, ◌-◌, ◌*◌, ◌/◌, ◌<◌, ◌≤◌, max, ◌≢◌, List, [], ◌∷◌, ◌++◌, length, drop, replicate}
+use Rattle.std.proofs.Math.Option.{some}
 use Rattle.checkpoints.specs.Numbers.{stride, fan, levels, level_slots, slots, most_time}
 use Rattle.checkpoints.specs.Slots.{Table, Runs, Few, act_at}
 use Rattle.checkpoints.specs.Policy.{slot, start, restart, arrive, arrive_gaps, forward, forward_gaps, move_levels, settle, back, back_gaps, last_kept, search_back, search_none}

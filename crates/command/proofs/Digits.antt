@@ -1,9 +1,9 @@
 -- Numbers in bytes, the highest first: what is read is what was written.
-use Rattle.std.proofs.Common.{◌≡◌, ℕ, zero, suc, ◌+◌, ◌*◌, ◌/◌, ◌%◌, ◌^◌, ◌<◌, ◌≤◌, Bool, true, false, ◌&&◌, eqb, ltb, leb, List, [], ◌∷◌, ◌++◌, length, sym, refl, ap, ◌∙◌, subst, append_assoc, mod-lt, mul_assoc, mul_comm, div-lt_iff_lt-mul, add-mul, pow-suc, div-add-mod', arith}
+use Rattle.std.proofs.Common.{◌≡◌, ℕ, zero, suc, ◌+◌, ◌*◌, ◌/◌, ◌%◌, ◌^◌, ◌<◌, ◌≤◌, Bool, true, false, ◌&&◌, ltb, leb, List, [], ◌∷◌, ◌++◌, length, sym, refl, ap, ◌∙◌, append_assoc, mod-lt, mul_assoc, mul_comm, div-lt_iff_lt-mul, add-mul, pow-suc, div-add-mod', arith}
 use lib.Arith.{digits_lt}
 use Rattle.std.proofs.lemmas.Bool.{ltb-true, leb-true, lt-ltb, and_from, and_parts}
 use Rattle.command.specs.Machine.{pick, in_bytes, eight, every, flat}
-use Rattle.command.specs.Reader.{Got, nothing, got, Reader, bind, only, byte, bytes, number, first, below, up_to, so_many, counted}
+use Rattle.command.specs.Reader.{Got, nothing, got, Reader, bind, bytes, number, first, below, up_to, so_many, counted}
 use Rattle.command.proofs.Readers.{Right, Rights, Exact, bind_at, right_bind, exact_only, so_many_back, so_many_forth}
 
 pub in_bytes_append : (k n : ℕ) (bs u : List ℕ) → in_bytes k n bs ++ u ≡ in_bytes k n (bs ++ u)

@@ -1,5 +1,5 @@
 -- A test of each element, one after the other. Assumes nothing.
-use Rattle.std.proofs.Common.{◌≡◌, ℕ, zero, suc, ◌+◌, ◌<◌, ◌≤◌, Bool, true, false, ◌&&◌, List, [], ◌∷◌, length, get_or, take, sym, refl, ap, ◌∙◌, add-one, arith}
+use Rattle.std.proofs.Common.{◌≡◌, ℕ, zero, suc, ◌+◌, ◌<◌, Bool, true, false, ◌&&◌, List, [], ◌∷◌, length, get_or, take, refl, add-one, arith}
 use Rattle.command.specs.Machine.{each, every, any, or}
 
 module _ {A B : Type 0} (p : B → Bool) (f : A → B) where

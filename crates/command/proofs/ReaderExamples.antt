@@ -1,7 +1,7 @@
 -- The reader computes.
-use Rattle.std.proofs.Common.{◌≡◌, ℕ, List, [], ◌∷◌, ◌++◌, refl}
-use Rattle.command.specs.Machine.{in_bytes, eight, load_number, halt}
-use Rattle.command.specs.Plain.{load, forward, add_break, Break, spelled, instr_spelled, numbers}
+use Rattle.std.proofs.Common.{◌≡◌, [], ◌∷◌, refl}
+use Rattle.command.specs.Machine.{in_bytes, load_number, halt}
+use Rattle.command.specs.Plain.{load, forward, spelled, instr_spelled}
 use Rattle.command.specs.Reader.{first, bytes, so_many, instr, break, command, all_of, read_command, some, none}
 
 forward_read : read_command (3 ∷ 0 ∷ 0 ∷ 0 ∷ 0 ∷ 0 ∷ 0 ∷ 1 ∷ 2 ∷ []) ≡ some (forward 258)

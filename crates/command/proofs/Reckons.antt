@@ -1,9 +1,8 @@
 -- The processor's bits and shifts, as its definition has them, are the machine's. Assumes nothing.
-use Rattle.std.proofs.Common.{◌≡◌, ℕ, zero, suc, ◌+◌, ◌-◌, ◌*◌, ◌/◌, ◌%◌, ◌^◌, ◌<◌, ◌≤◌, min, max, Bool, true, false, not, ◌&&◌, eqb, ◌⊎◌, sym, refl, ap, ◌∙◌, subst, inl, inr, add-zero, mul_assoc, mul_comm, add-mul, add_comm, pow-suc, arith}
+use Rattle.std.proofs.Common.{◌≡◌, ℕ, zero, suc, ◌+◌, ◌*◌, ◌/◌, ◌%◌, ◌^◌, ◌<◌, min, max, Bool, true, false, eqb, ◌⊎◌, sym, refl, ap, ◌∙◌, inl, inr, mul_assoc, mul_comm, add-mul, add_comm, pow-suc, arith}
 use native.Mathlib.Nat.{add-mul-mod_self_right}
 use lib.Bits.{bit_and, bit_or, bit_xor, and_step, or_step, xor_step, differ as apart}
 use Rattle.std.proofs.lemmas.Nat.{shr-shr, div-add-mod'}
-use Rattle.std.proofs.lemmas.Bool.Decides.{nat_tests}
 use Rattle.command.specs.Machine.{pick, or, both, differ, whole, bits, twice, halved}
 
 digit : (x : ℕ) → x < 2 → (x ≡ 0) ⊎ (x ≡ 1)

@@ -1,9 +1,9 @@
 -- Commands are read just as they are spelled.
-use Rattle.std.proofs.Common.{◌≡◌, ℕ, zero, suc, ◌<◌, ◌≤◌, Bool, true, false, ◌&&◌, eqb, ltb, leb, ◌⊎◌, List, [], ◌∷◌, ◌++◌, length, sym, refl, ap, ◌∙◌, subst, inl, inr, append_assoc, append-nil, arith}
-use Rattle.std.proofs.lemmas.Bool.{and_from, and_parts, eqb-true}
-use Rattle.command.specs.Machine.{pick, every, flat, eight, Instr, load_number, copy, reckon, read, write, jump, jump_if, call, return, take_in, put_out, halt}
-use Rattle.command.specs.Plain.{Test, Break, Command, load, give, forward, back, run, rerun, changer, add_break, drop_break, where_now, registers, words_from, outs_from, a_word, a_reg, billion, instr_spelled, an_instr, test_spelled, a_test, break_spelled, a_break, spelled, fits, numbers}
-use Rattle.command.specs.Reader.{Got, nothing, got, Reader, bind, only, first, byte, number, both, as_a, so_many, counted, Way, way, one_of, by_first, below, up_to, register, place, word, steps, any_number, two, instr_ways, instr, which_below, a_test_of, test, a_break_of, break, command_ways, command, Read, none, some, all_of, read_command, Says}
+use Rattle.std.proofs.Common.{◌≡◌, ℕ, ◌≤◌, Bool, true, false, ◌&&◌, eqb, ◌⊎◌, List, [], ◌∷◌, ◌++◌, length, sym, refl, ap, ◌∙◌, subst, inl, inr, append_assoc, append-nil, arith}
+use Rattle.std.proofs.lemmas.Bool.{and_parts, eqb-true}
+use Rattle.command.specs.Machine.{pick, flat, eight, Instr, load_number, copy, reckon, read, write, jump, jump_if, call, return, take_in, put_out, halt}
+use Rattle.command.specs.Plain.{Break, Command, load, give, forward, back, run, rerun, changer, add_break, drop_break, where_now, registers, words_from, outs_from, a_word, a_reg, billion, instr_spelled, an_instr, test_spelled, a_test, break_spelled, a_break, spelled, fits, numbers}
+use Rattle.command.specs.Reader.{Got, nothing, got, Reader, first, byte, number, both, as_a, counted, below, up_to, register, place, word, steps, any_number, two, instr_ways, instr, which_below, a_test_of, test, a_break_of, break, command_ways, command, Read, none, some, all_of, read_command, Says}
 use Rattle.command.specs.Statements.{SpelledOnce, ReadExactly}
 use Rattle.command.proofs.Readers.{Right, Exact, bind_at, exact_byte, exact_empty, exact_both, exact_as, WaysRight, by_first_right, way_as, one}
 use Rattle.command.proofs.Digits.{exact_below, exact_up_to, exact_counted, w_counted, ok_counted}

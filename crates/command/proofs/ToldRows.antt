@@ -1,9 +1,9 @@
 -- Where the instructions of a load and the numbers of a give stand in a text that says it: behind the first byte and their count.
-use Rattle.std.proofs.Common.{◌≡◌, ℕ, ◌≤◌, Bool, true, List, [], ◌∷◌, ◌++◌, length, drop, sym, refl, ap, ◌∙◌, append-nil}
+use Rattle.std.proofs.Common.{◌≡◌, ℕ, ◌≤◌, Bool, true, List, [], ◌∷◌, length, drop, sym, ap, ◌∙◌, append-nil}
 use Rattle.std.proofs.lemmas.Bool.{and_parts, leb-true}
 use Rattle.command.specs.Machine.{every, flat, in_bytes, eight, Instr}
 use Rattle.command.specs.Plain.{load, give, spelled, fits, instr_spelled, an_instr, a_word}
-use Rattle.command.specs.Reader.{Got, got, Reader, so_many, counted, instr, word, Says}
+use Rattle.command.specs.Reader.{got, Reader, so_many, counted, instr, word, Says}
 use Rattle.command.specs.Told.{listed, program_in, numbers_in}
 use Rattle.command.proofs.Readers.{Exact, so_many_forth}
 use Rattle.command.proofs.Digits.{w_counted, ok_counted}

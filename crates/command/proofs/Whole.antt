@@ -1,7 +1,7 @@
 -- What a text says, by what is read of it.
-use Rattle.std.proofs.Common.{◌≡◌, ℕ, ◌<◌, List, [], ◌∷◌, length, drop, sym, refl, ap, ◌∙◌, subst, arith}
+use Rattle.std.proofs.Common.{◌≡◌, ℕ, ◌<◌, List, [], ◌∷◌, length, drop, refl, ap, ◌∙◌, arith}
 use Rattle.command.specs.Plain.{Command}
-use Rattle.command.specs.Reader.{Got, nothing, got, bind, first, one_of, command_ways, command, all_of, some, none, read_command, Says}
+use Rattle.command.specs.Reader.{nothing, got, bind, first, one_of, command_ways, command, all_of, none, read_command, Says}
 use Rattle.command.proofs.Texts.{text_none}
 use Rattle.command.proofs.Spellings.{read_back, says_none}
 

@@ -1,5 +1,5 @@
 -- What the code's breaks are by the plain debugger's definition. Assumes nothing: these are definitions.
-use Rattle.std.specs.Prelude.{ℕ, List, [], ◌∷◌, take}
+use Rattle.std.specs.Prelude.{ℕ, List, take}
 use Rattle.std.specs.Option.{option_to_list}
 use Rattle.command.specs.Machine.{each}
 use Rattle.command.specs.Plain.{Test as Asked, Break as Stop}

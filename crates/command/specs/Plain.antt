@@ -1,6 +1,6 @@
 -- What is asked of a debugger, and the plain one, which begins anew each time. Assumes nothing: these are definitions.
-use Rattle.std.specs.Prelude.{◌≡◌, ℕ, zero, suc, ◌+◌, ◌-◌, ◌*◌, ◌/◌, ◌%◌, ◌<◌, ◌≤◌, Bool, true, false, not, ◌&&◌, eqb, ltb, List, [], ◌∷◌, ◌++◌, length, take, drop, ◌==◌, nat_le, nat_lt}
-use Rattle.command.specs.Machine.{pick, or, every, any, each, those, flat, added_up, none_of, same, eight, smaller, larger, Instr, load_number, copy, reckon, read, write, jump, jump_if, call, return, take_in, put_out, halt, Word, Status, running, halted, wrong, waiting, State, word_at, reg, compared, is_running, step, state_at, goes_on, at_start}
+use Rattle.std.specs.Prelude.{ℕ, zero, suc, ◌+◌, ◌-◌, ◌*◌, Bool, true, false, not, ◌&&◌, eqb, ltb, List, [], ◌∷◌, ◌++◌, length, take, drop, ◌==◌, nat_le, nat_lt}
+use Rattle.command.specs.Machine.{pick, every, any, those, flat, eight, larger, Instr, load_number, copy, reckon, read, write, jump, jump_if, call, return, take_in, put_out, halt, Word, Status, running, halted, wrong, waiting, State, word_at, reg, compared, state_at, goes_on}
 
 -- a test: 0 a register, 1 a word; which; how it compares with a number
 pub record Test : Type 0 where

@@ -1,8 +1,8 @@
 -- The reader of commands: which command a text spells, if any. Assumes nothing: these are definitions.
 -- A reader takes what it reads off the front of a text, and leaves the rest. A new command is one more way in `order-ways`.
-use Rattle.std.specs.Prelude.{◌≡◌, ℕ, zero, suc, ◌+◌, ◌*◌, Bool, true, false, ◌&&◌, ltb, leb, List, [], ◌∷◌, ◌++◌, ◌==◌, nat_le, nat_lt}
+use Rattle.std.specs.Prelude.{◌≡◌, ℕ, zero, suc, ◌+◌, ◌*◌, Bool, true, ltb, leb, List, [], ◌∷◌, ◌==◌, nat_le, nat_lt}
 use Rattle.command.specs.Machine.{pick, Instr, load_number, copy, reckon, read, write, jump, jump_if, call, return, take_in, put_out, halt}
-use Rattle.command.specs.Plain.{Test, Break, Command, load, give, forward, back, run, rerun, changer, add_break, drop_break, where_now, registers, words_from, outs_from, a_word, a_reg, billion, spelled, fits}
+use Rattle.command.specs.Plain.{Test, Break, Command, load, give, forward, back, run, rerun, changer, add_break, drop_break, where_now, registers, words_from, outs_from, billion, spelled, fits}
 
 -- a value and the rest of the text, or nothing
 pub data Got (A : Type 0) : Type 0 where

@@ -1,5 +1,5 @@
 -- What the code's commands are by the plain debugger's definition. Assumes nothing: these are definitions.
-use Rattle.std.specs.Prelude.{◌≡◌, ℕ, List, [], ◌∷◌, length, drop, Some, None, Ok, Err, Option, Result}
+use Rattle.std.specs.Prelude.{◌≡◌, ℕ, List, [], length, drop, Some, None, Ok, Err, Option, Result}
 use Rattle.command.specs.Machine.{Instr}
 use Rattle.command.specs.Plain.{Command as Asked, load, give, forward, back, run, rerun, changer, add_break, drop_break, where_now, registers, words_from, outs_from}
 use Rattle.command.specs.Breaks.{break_of}

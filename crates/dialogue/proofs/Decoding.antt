@@ -1,8 +1,8 @@
 -- Numbers read back from the bytes that show them. Assumes nothing.
-use Rattle.std.proofs.Common.{◌≡◌, ℕ, suc, ◌<◌, true, List, [], ◌∷◌, ◌++◌, length, sym, refl, ap, ◌∙◌, append_assoc, arith}
+use Rattle.std.proofs.Common.{◌≡◌, ℕ, ◌<◌, true, List, [], ◌∷◌, ◌++◌, length, sym, refl, ap, ◌∙◌, append_assoc, arith}
 use Rattle.std.proofs.lemmas.Bool.{and_parts}
 use Rattle.command.specs.Machine.{every, flat, eight, in_bytes}
-use Rattle.command.specs.Reader.{Got, nothing, got}
+use Rattle.command.specs.Reader.{nothing, got}
 use Rattle.command.proofs.Readers.{Exact}
 use Rattle.command.proofs.Digits.{exact_up_to}
 use Rattle.command.proofs.Every.{every_append}

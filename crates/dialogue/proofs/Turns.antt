@@ -1,9 +1,8 @@
 -- What the plain debugger shows for each order, in numbers. Assumes nothing.
-use Rattle.std.proofs.Common.{◌≡◌, ℕ, zero, suc, Bool, true, false, eqb, ltb, leb, List, [], ◌∷◌, ◌++◌, length, sym, refl, ap, ◌∙◌, arith}
+use Rattle.std.proofs.Common.{◌≡◌, ℕ, zero, suc, Bool, true, false, eqb, ltb, leb, List, [], ◌∷◌, ◌++◌, length, refl, ap, arith}
 use Rattle.command.specs.Machine.{pick, any, flat, eight, in_bytes, Word, word_at}
 use Rattle.command.specs.Plain.{Plain, Turn, turn, no, moved_turn, changer_turn, words_shown, at_time, last_change}
 use Rattle.command.specs.declared.breaks.Break.{Break as Stop}
-use Rattle.command.specs.declared.commands.Order.{Order}
 use Rattle.command.specs.declared.commands.Order.TheVariants.{Forward, Back, Run, Rerun, Changer, Break, Drop, Where, Registers, Words, Outs}
 use Rattle.command.proofs.Picks.{by_test}
 use Rattle.dialogue.specs.declared.showing.Showing.{Showing}

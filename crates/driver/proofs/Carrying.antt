@@ -1,16 +1,14 @@
 -- Any act that is carried, whatever was shown before.
-use Rattle.std.proofs.Common.{◌≡◌, ℕ, ◌+◌, ◌<◌, ◌≤◌, List, [], ◌∷◌, ◌++◌, length, take, sym, refl, ap, ◌∙◌, subst, add-zero, arith}
+use Rattle.std.proofs.Common.{◌≡◌, ℕ, List, [], ◌∷◌, ◌++◌, length, sym, refl, ap, ◌∙◌, subst, add-zero, arith}
 use Rattle.std.proofs.lemmas.List.{length-take}
-use Rattle.target.specs.Run.{Act, Target, shows, done, refused, one_act, refusal_end, ran, world, next}
+use Rattle.target.specs.Run.{Act, Target, shows, one_act, refusal_end, ran, world, next}
 use Rattle.machine.specs.Entry.{ActTold}
 use Rattle.machine.specs.declared.acts.Told.{Told}
 use Rattle.machine.specs.declared.acts.Told.TheVariants.{Shows, Done, No}
 use Rattle.driver.specs.Carried.{Served, Serves, Carried, Carries, Shown, SoundHeard}
-use Rattle.driver.specs.declared.event.Event.{Event}
-use Rattle.driver.specs.declared.event.Event.TheVariants.{Said, Came, Saw, Next}
 use Rattle.driver.specs.declared.event.Heard.{Heard}
 use Rattle.driver.specs.declared.event.Heard.TheVariants.{Over, Tells, NoMemory, ShownTwice}
-use Rattle.driver.proofs.Shapes.{Shape, shape}
+use Rattle.driver.proofs.Shapes.{shape}
 
 -- what is told after a text was shown
 pub shown_sound : (h : Heard) (n : ℕ) (row : List ℕ) (ss ss₁ : List (List ℕ)) → Shown h n row ss ss₁ → (k : ℕ) → SoundHeard h k

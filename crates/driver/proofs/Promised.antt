@@ -1,13 +1,13 @@
 -- The promise on what is said: from a session that stands for a plain debugger to the next one.
-use Rattle.std.proofs.Common.{◌≡◌, ℕ, suc, ◌≤◌, Bool, true, false, List, [], ◌∷◌, length, replicate, sym, refl, ap, ◌∙◌, subst, inl, inr, arith}
+use Rattle.std.proofs.Common.{◌≡◌, ℕ, suc, ◌≤◌, Bool, true, false, List, [], ◌∷◌, length, replicate, sym, ap, ◌∙◌, subst, inl, inr, arith}
 use lib.ListN.{get_or-replicate}
 use Rattle.command.specs.Machine.{pick, eight}
 use Rattle.command.specs.Plain.{Command, load, give, forward, back, run, rerun, changer, add_break, drop_break, where_now, registers, words_from, outs_from, core, Plain, turn, no, yes_with, changer_turn, last_change}
 use Rattle.target.specs.Run.{said, Target, Ran, world, runs, fresh_target}
-use Rattle.machine.specs.Engine.{own, cell, cells, fed}
+use Rattle.machine.specs.Engine.{own, cell, fed}
 use Rattle.machine.specs.Promise.{May, Holds, Holding, most_turns, first_plain}
 use Rattle.machine.proofs.Whole.{holding_core}
-use Rattle.driver.specs.Says.{limit, Counted, Went, WentAs, Stands, Answered}
+use Rattle.driver.specs.Says.{Went, Stands, Answered}
 use Rattle.driver.specs.declared.outcome.Outcome.{Outcome}
 use Rattle.driver.specs.declared.outcome.Outcome.TheVariants.{Over, NoMemory}
 

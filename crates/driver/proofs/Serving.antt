@@ -1,29 +1,25 @@
 -- Each act that is carried to the processor, from what its method promises.
-use Rattle.std.proofs.Common.{◌≡◌, ℕ, ◌+◌, ◌<◌, ◌≤◌, Bool, true, false, eqb, List, [], ◌∷◌, length, get_or, take, drop, Ok, Err, Result, sym, refl, ap, ◌∙◌, subst, arith}
-use Rattle.command.specs.Machine.{pick, every}
+use Rattle.std.proofs.Common.{◌≡◌, ℕ, ◌+◌, ◌<◌, ◌≤◌, false, List, length, get_or, take, drop, Ok, Err, Result, sym, refl, ap, ◌∙◌, subst, arith}
+use Rattle.command.specs.Machine.{every}
 use Rattle.command.specs.Plain.{a_word}
 use Rattle.command.specs.Reader.{Got, nothing, got, so_many, instr, break}
-use Rattle.command.specs.Codes.{code, codes}
-use Rattle.command.specs.Breaks.{break_of, breaks_of}
+use Rattle.command.specs.Codes.{codes}
+use Rattle.command.specs.Breaks.{breaks_of}
 use Rattle.command.specs.declared.code.Instr.{Instr as Code}
 use Rattle.command.specs.declared.breaks.Break.{Break}
-use Rattle.target.specs.Run.{Act, starts, feeds, goes, keeps, takes_up, looks_regs, looks_words, looks_outs, looks_where, Target, next, came, saw, fresh_target}
-use Rattle.target.specs.Acts.{Does, Refuses, Begins, Feeds as Fed, Goes as Gone, Wanting, Keeps as Kept, TakesUp as Took}
-use Rattle.target.specs.Whys.{why_number}
+use Rattle.target.specs.Run.{Act, starts, feeds, goes, keeps, takes_up, looks_regs, looks_words, looks_outs, looks_where, Target, saw}
+use Rattle.target.specs.Acts.{Does, Begins, Feeds as Fed, Goes as Gone, Wanting, Keeps as Kept, TakesUp as Took}
 use Rattle.target.specs.declared.answers.Came.{Came as Answer}
 use Rattle.target.specs.declared.answers.Fault.{Fault}
 use Rattle.target.specs.declared.answers.Fault.TheVariants.{TooLong, TooManyBreaks, NoSuchSlot, EmptySlot, TooManyNumbers, NoMemory as Wants}
 use Rattle.target.proofs.Doing.{refuses_goes, refuses_words, refuses_outs}
-use Rattle.machine.specs.Entry.{ActTold}
 use Rattle.machine.specs.Fair.{FairAct}
 use Rattle.machine.specs.declared.acts.Told.{Told}
 use Rattle.machine.specs.declared.acts.Told.TheVariants.{Starts, Feeds, Goes, Keeps, TakesUp, Looks}
 use Rattle.driver.specs.Carried.{heard_by, heard_going, SoundHeard, Served, Serves}
-use Rattle.driver.specs.Rows.{Filled, Copied}
-use Rattle.driver.specs.declared.event.Event.{Event}
-use Rattle.driver.specs.declared.event.Event.TheVariants.{Said, Came, Saw, Next}
+use Rattle.driver.specs.declared.event.Event.TheVariants.{Came, Saw, Next}
 use Rattle.driver.specs.declared.event.Heard.{Heard}
-use Rattle.driver.specs.declared.event.Heard.TheVariants.{Over, Tells, NoMemory, ShownTwice}
+use Rattle.driver.specs.declared.event.Heard.TheVariants.{Over, Tells, NoMemory}
 use Rattle.std.proofs.lemmas.Bool.{false≢true, ne_eqb}
 use Rattle.driver.proofs.Shapes.{Shape, shape, program_back, breaks_back, breaks_count}
 

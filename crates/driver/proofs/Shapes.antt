@@ -1,5 +1,5 @@
 -- Which acts are told so: from what a step tells back and the row that it wrote, the act.
-use Rattle.std.proofs.Common.{◌≡◌, ℕ, true, eqb, List, [], ◌∷◌, ◌++◌, length, get_or, take, drop, sym, refl, ap, ◌∙◌, subst}
+use Rattle.std.proofs.Common.{◌≡◌, ℕ, true, eqb, List, ◌∷◌, length, get_or, take, drop, sym, refl, ap, ◌∙◌, subst}
 use Rattle.std.proofs.lemmas.List.{take_at}
 use Rattle.command.specs.Machine.{pick, flat, every, Instr}
 use Rattle.command.specs.Plain.{Break, instr_spelled, break_spelled, an_instr, a_break}

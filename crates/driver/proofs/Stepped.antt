@@ -1,5 +1,5 @@
 -- What a step leaves, on a memory and a row of their lengths.
-use Rattle.std.proofs.Common.{◌≡◌, ℕ, ◌≤◌, Bool, true, false, List, length, refl, ap, ◌∙◌, subst}
+use Rattle.std.proofs.Common.{◌≡◌, ℕ, ◌≤◌, Bool, true, false, List, length, refl, ◌∙◌, subst}
 use Rattle.std.proofs.lemmas.Bool.{false≢true, eq-eqb, le-leb}
 use Rattle.target.specs.Run.{Event}
 use Rattle.machine.specs.Engine.{own}

@@ -1,7 +1,7 @@
 -- A turn of the loop is a turn of the run.
-use Rattle.std.proofs.Common.{◌≡◌, ℕ, zero, suc, ◌+◌, ◌%◌, ◌<◌, ◌≤◌, List, [], ◌∷◌, ◌++◌, length, sym, refl, ap, ◌∙◌, subst, arith}
+use Rattle.std.proofs.Common.{◌≡◌, ℕ, suc, ◌+◌, ◌%◌, ◌<◌, ◌≤◌, List, [], ◌∷◌, ◌++◌, length, sym, refl, ap, ◌∙◌, subst, arith}
 use Rattle.std.proofs.lemmas.List.{length-append}
-use Rattle.target.specs.Run.{Event, said, next, Act, shows, Target, World, Ran, ran, world, one_act, runs}
+use Rattle.target.specs.Run.{Event, said, next, Target, Ran, ran, world, one_act, runs}
 use Rattle.machine.specs.Engine.{own, cell, fed}
 use Rattle.machine.specs.Entry.{ActTold}
 use Rattle.machine.specs.Fair.{FairAct, Fair}

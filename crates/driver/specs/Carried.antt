@@ -1,5 +1,5 @@
 -- What comes of an act that is carried to a processor. Assumes nothing: these are definitions.
-use Rattle.std.specs.Prelude.{◌≡◌, ℕ, ◌+◌, ◌<◌, ◌≤◌, List, [], ◌∷◌, ◌++◌, length, take, Ok, Err, Result}
+use Rattle.std.specs.Prelude.{◌≡◌, ℕ, ◌+◌, ◌<◌, ◌≤◌, List, [], ◌∷◌, length, take, Ok, Err, Result}
 use Rattle.target.specs.Run as run
 use Rattle.target.specs.Run.{Act, shows, Target, World, Ran, ran, world, one_act}
 use Rattle.target.specs.Whys.{why_number}

@@ -1,5 +1,5 @@
 -- What is said to the debugger on a processor, and how it is answered. Assumes nothing: these are definitions.
-use Rattle.std.specs.Prelude.{◌≡◌, ℕ, ◌%◌, ◌<◌, ◌≤◌, Bool, List, [], length}
+use Rattle.std.specs.Prelude.{◌≡◌, ℕ, ◌%◌, ◌<◌, ◌≤◌, Bool, List, length}
 use Rattle.command.specs.Plain.{Command, Plain}
 use Rattle.target.specs.Run.{Event, said, Target, Ran, world, runs}
 use Rattle.machine.specs.Engine.{own, cell, fed}

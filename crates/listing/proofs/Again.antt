@@ -1,5 +1,5 @@
 -- Instructions that are listed with labels assemble to themselves. Assumes nothing.
-use Rattle.std.proofs.Common.{◌≡◌, ℕ, zero, suc, ◌<◌, Bool, true, false, not, ◌&&◌, eqb, List, [], ◌∷◌, ◌++◌, length, get_or, Some, None, Ok, codes as chars, decimal, Option, Result, unwrap_or, sym, refl, ap, ◌∙◌, ⊎_elim, append-nil, arith}
+use Rattle.std.proofs.Common.{◌≡◌, ℕ, zero, suc, ◌<◌, Bool, true, false, not, eqb, List, [], ◌∷◌, ◌++◌, length, get_or, Some, None, Ok, codes as chars, decimal, Option, Result, unwrap_or, sym, refl, ap, ◌∙◌, ⊎_elim, append-nil, arith}
 use Rattle.std.proofs.lemmas.Bool.{and_parts, cases_Bool, eqb-true}
 use Rattle.std.proofs.lemmas.Bool.Decides.{nat_tests}
 use Rattle.std.specs.Option.{ok_or}
@@ -16,7 +16,6 @@ use Rattle.assembler.proofs.Runs.{front_on, past_on, past_off}
 use Rattle.assembler.proofs.Numerals.{Numeral, numeral, number_reads, word_digits, past_digits, spaced_at, spaced_last, register_at, next_register_at, comparison_last}
 use Rattle.assembler.proofs.Back.{reads_back}
 use Rattle.listing.specs.Labels.{name_of, place_text}
-use Rattle.listing.specs.Lines.{named_text}
 use Rattle.listing.specs.Statements.{Clear, NamedBack}
 
 -- a text that is read as a place, and as no comparison

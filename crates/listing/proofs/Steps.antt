@@ -1,5 +1,5 @@
 -- Where a step leads. Assumes nothing.
-use Rattle.std.proofs.Common.{◌≡◌, ℕ, suc, ◌-◌, Bool, true, false, ltb, leb, List, [], ◌∷◌, drop, refl}
+use Rattle.std.proofs.Common.{ℕ, suc, ◌-◌, Bool, true, false, ltb, leb, List, [], ◌∷◌, drop, refl}
 use Rattle.command.specs.Machine.{pick, State, Instr, load_number, copy, reckon, read, write, jump, jump_if, call, return, take_in, put_out, halt, reg, reckoned, compared, reckon_done, taken_in, place, does}
 use Rattle.listing.specs.Labels.{name_of}
 use Rattle.listing.specs.Statements.{Unlabelled, Leads, stays, goes_on, returns, jumps, calls, Told}

@@ -1,10 +1,10 @@
 -- What is left of a list of instructions or labels, turn by turn. Assumes nothing.
-use Rattle.std.proofs.Common.{◌≡◌, ℕ, ◌+◌, ◌<◌, ◌≤◌, Bool, true, false, eqb, List, [], ◌∷◌, ◌++◌, length, get_or, drop, Some, None, string_bytes, codes as chars, decimal, Option, sym, refl, ap, ◌∙◌}
+use Rattle.std.proofs.Common.{◌≡◌, ℕ, ◌+◌, ◌<◌, ◌≤◌, Bool, true, false, eqb, List, [], ◌∷◌, ◌++◌, length, get_or, drop, Some, None, string_bytes, codes as chars, decimal, Option, sym, ap, ◌∙◌}
 use Rattle.std.proofs.lemmas.List.{at_drop_more, at_drop_all}
 use Rattle.command.specs.Codes.{code, codes}
 use Rattle.command.specs.Machine.{pick, or, Instr}
 use Rattle.command.specs.declared.code.Instr.{Instr as Code}
-use Rattle.assembler.specs.Instructions.{Label, label_of, labels_of}
+use Rattle.assembler.specs.Instructions.{Label, labels_of}
 use Rattle.assembler.specs.declared.labels.Label.{Label as LabelCode}
 use Rattle.listing.specs.declared.branches.Branch.{Branch}
 use Rattle.listing.specs.declared.branches.Branch.TheVariants.{Jump, Call}

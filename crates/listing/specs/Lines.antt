@@ -1,5 +1,5 @@
 -- One line of a listing. Assumes nothing: these are definitions.
-use Rattle.std.specs.Prelude.{ℕ, Bool, List, [], ◌∷◌, ◌++◌, length, codes as chars, decimal, nat_lt}
+use Rattle.std.specs.Prelude.{ℕ, Bool, List, [], ◌++◌, length, codes as chars, decimal, nat_lt}
 use Rattle.command.specs.Machine.{pick, Instr, load_number, copy, reckon, read, write, jump, jump_if, call, return, take_in, put_out, halt}
 use Rattle.assembler.specs.Instructions.{Label}
 use Rattle.assembler.specs.Names.{comparison_name}

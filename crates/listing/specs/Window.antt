@@ -1,5 +1,5 @@
 -- The lines of a listing. Assumes nothing: these are definitions.
-use Rattle.std.specs.Prelude.{ℕ, ◌+◌, ◌-◌, Bool, true, false, ◌&&◌, List, [], ◌∷◌, ◌++◌, length, Some, None, Option, ◌==◌, nat_le, nat_lt}
+use Rattle.std.specs.Prelude.{ℕ, ◌+◌, ◌-◌, Bool, false, ◌&&◌, List, [], ◌∷◌, ◌++◌, Some, None, Option, ◌==◌, nat_le, nat_lt}
 use Rattle.command.specs.Machine.{pick, smaller, Instr}
 use Rattle.assembler.specs.Instructions.{Label}
 use Rattle.listing.specs.Lines.{line_text}

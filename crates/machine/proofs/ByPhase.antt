@@ -3,9 +3,9 @@ use Rattle.std.proofs.Common.{◌≡◌, ℕ, suc, ◌+◌, ◌/◌, ◌%◌, �
 use Rattle.std.proofs.lemmas.Bool.{le-leb, lt-leb}
 use Rattle.std.proofs.lemmas.Bool.Decides.{nat_tests}
 use Rattle.checkpoints.specs.Arrivals.{beginning_slot, arrival_slot}
-use Rattle.command.specs.Machine.{pick, flat, eight}
+use Rattle.command.specs.Machine.{flat, eight}
 use Rattle.command.proofs.Picks.{pick_true, pick_false}
-use Rattle.target.specs.Run.{keeps, shows, done, refused}
+use Rattle.target.specs.Run.{keeps, shows, done}
 use Rattle.machine.specs.Engine.{Write, puts, plan, written, cell, limit, set_off, went, unexpected, on_came, on_saw, on_next}
 use Rattle.machine.specs.Entry.{ActTold, Carries}
 use Rattle.machine.specs.Phases.{phase_number, phase_of}

@@ -1,5 +1,5 @@
 -- Forward: a ride from now on, and the time shown. Assumes nothing.
-use Rattle.std.proofs.Common.{◌≡◌, ℕ, ◌+◌, ◌-◌, ◌*◌, ◌<◌, ◌≤◌, List, [], ◌∷◌, refl, ap, ◌∙◌, mod-eq_of_lt, arith}
+use Rattle.std.proofs.Common.{◌≡◌, ℕ, ◌+◌, ◌*◌, ◌<◌, ◌≤◌, List, [], ◌∷◌, refl, ap, ◌∙◌, mod-eq_of_lt, arith}
 use Rattle.std.proofs.lemmas.Bool.{leb-true}
 use Rattle.command.specs.Machine.{eight}
 use Rattle.command.specs.Plain.{forward, fits, Plain, turn, moved_turn, on_till, may_step, apart, billion}

@@ -2,7 +2,6 @@
 -- Assumes nothing.
 use Rattle.std.proofs.Common.{◌≡◌, ℕ, zero, suc, ◌+◌, ◌<◌, Bool, true, not, eqb, List, [], ◌∷◌, length, Some, None, Option, sym, refl, ap, ◌∙◌, subst, add-zero, mod-eq_of_lt, arith}
 use mathlib.Core.Option.{none, some}
-use mathlib.Core.Option as core
 use Rattle.std.proofs.lemmas.Bool.{eqb-true, both_ways, not_from_false}
 use Rattle.command.specs.Plain.{Plain, moved}
 use Rattle.command.proofs.Picks.{by_test}

@@ -1,5 +1,5 @@
 -- The commands that begin anew and give: load and give. Assumes nothing.
-use Rattle.std.proofs.Common.{◌≡◌, ℕ, suc, ◌+◌, ◌<◌, ◌≤◌, Bool, true, false, ltb, List, [], ◌∷◌, ◌++◌, length, sym, refl, ap, ◌∙◌, subst, inr, mod-eq_of_lt, zero-add, arith, lit≤, length-append}
+use Rattle.std.proofs.Common.{◌≡◌, ℕ, suc, ◌+◌, ◌<◌, Bool, true, false, ltb, List, [], ◌∷◌, ◌++◌, length, sym, refl, ap, ◌∙◌, subst, inr, mod-eq_of_lt, zero-add, arith, lit≤, length-append}
 use mathlib.Core.Option.{none}
 use Rattle.std.proofs.lemmas.Bool.{and_parts, ltb-false}
 use Rattle.command.specs.Machine.{pick, Instr, State, state_at}

@@ -1,5 +1,5 @@
 -- A stride: where going on by some of the steps that are left comes to, and how many are left then. Assumes nothing.
-use Rattle.std.proofs.Common.{◌≡◌, ℕ, suc, ◌+◌, ◌-◌, ◌%◌, ◌<◌, ◌≤◌, Bool, true, false, not, ◌&&◌, eqb, ltb, ◌⊎◌, [], sym, refl, ap, ◌∙◌, subst, ⊎_elim, mod-lt, arith, lit<}
+use Rattle.std.proofs.Common.{◌≡◌, ℕ, suc, ◌+◌, ◌-◌, ◌%◌, ◌<◌, ◌≤◌, Bool, true, false, not, ◌&&◌, eqb, ltb, [], sym, refl, ap, ◌∙◌, subst, ⊎_elim, mod-lt, arith, lit<}
 use Rattle.std.proofs.lemmas.Bool.{ltb-true, ltb-false, ne_eqb, false≢true}
 use Rattle.command.specs.Machine.{pick, goes_on}
 use Rattle.command.specs.Plain.{Plain, at_time, on_till, status_number}

@@ -1,6 +1,6 @@
 -- What the whole debugger promises, of any engine: for all that can be said, what the plain debugger says, within the steps granted. Assumes nothing.
 use Rattle.std.specs.Prelude.{◌≡◌, ℕ, zero, suc, ◌≤◌, Bool, true, false, ◌⊎◌, List, [], ◌∷◌, length}
-use Rattle.command.specs.Plain.{Command, spelled, fits, Plain, Turn, turn, may_step}
+use Rattle.command.specs.Plain.{Command, spelled, fits, Plain, turn, may_step}
 use Rattle.target.specs.Run.{Engine, said, World, Ran, runs, world, fresh_target, Steady}
 
 abbrev pub Never : Type 0

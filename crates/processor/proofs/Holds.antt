@@ -1,8 +1,8 @@
 -- The emulator stays like the target that each act makes. Assumes nothing.
-use Rattle.std.proofs.Common.{◌≡◌, ℕ, zero, suc, ◌+◌, ◌-◌, ◌*◌, ◌/◌, ◌%◌, ◌<◌, ◌≤◌, Bool, true, false, eqb, ltb, leb, List, [], ◌∷◌, ◌++◌, length, get_or, take, drop, set, replicate, Some, None, vec_items, vec_len, vec_capacity, Option, Vec, sym, refl, ap, ◌∙◌, subst, append_assoc, append-nil, arith, length-append, get_or-set_other, get_or-set_same}
+use Rattle.std.proofs.Common.{◌≡◌, ℕ, suc, ◌<◌, ◌≤◌, true, false, eqb, ltb, leb, List, [], ◌∷◌, ◌++◌, length, get_or, drop, set, replicate, Some, None, vec_items, Option, Vec, sym, refl, ap, ◌∙◌, subst, append-nil, arith, length-append, get_or-set_other, get_or-set_same}
 use Rattle.std.proofs.lemmas.Bool.{eqb-true, eqb-false, eq-eqb, ne_eqb, leb-true, leb-false, ltb-true, ltb-false}
 use Rattle.std.proofs.lemmas.List.{drop_all, drop_at}
-use Rattle.command.specs.Machine.{pick, Instr, State as Model, running, word_at, so_many, is_running, step, state_at, at_start}
+use Rattle.command.specs.Machine.{pick, Instr, State as Model, word_at, so_many, is_running, step, state_at}
 use Rattle.command.specs.Plain.{Break}
 use Rattle.command.specs.Codes.{codes}
 use Rattle.command.specs.Statements.{PastSame, OutsGrow}
@@ -12,7 +12,7 @@ use Rattle.command.proofs.Picks.{by_test}
 use Rattle.command.proofs.MoreInput.{past_same}
 use Rattle.command.proofs.Running.{ran_till}
 use Rattle.command.proofs.OutsGrow.{Grown, outs_grow}
-use Rattle.target.specs.Run.{Target, slot_of, fresh_target, with_state, keep_in, going, Came as Far}
+use Rattle.target.specs.Run.{Target, slot_of, fresh_target, with_state, keep_in, going}
 use Rattle.target.specs.declared.answers.Came.{Came}
 use Rattle.target.proofs.Slots.{kept_found, kept_others}
 use Rattle.target.proofs.Doing.{fed_with, gone}

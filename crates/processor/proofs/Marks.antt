@@ -1,9 +1,9 @@
 -- Which pages are marked, how many, and those that are not. Assumes nothing.
-use Rattle.std.proofs.Common.{◌≡◌, ℕ, zero, suc, ◌+◌, ◌<◌, ◌≤◌, Bool, true, false, eqb, List, [], ◌∷◌, ◌++◌, length, get_or, take, set, sym, refl, ap, ◌∙◌, subst, add-one, arith, length-append}
+use Rattle.std.proofs.Common.{◌≡◌, ℕ, zero, suc, ◌+◌, ◌<◌, ◌≤◌, Bool, true, false, eqb, List, [], ◌∷◌, ◌++◌, length, get_or, take, set, sym, refl, ap, ◌∙◌, add-one, arith, length-append}
 use Rattle.std.proofs.lemmas.Bool.{eqb-true, eqb-false, false≢true}
 use Rattle.std.proofs.lemmas.List.{get_or_append_left, get_or_push}
 use Rattle.command.proofs.Picks.{by_test}
-use Rattle.processor.specs.Pages.{marked, Gathered, Distinct}
+use Rattle.processor.specs.Pages.{marked, Gathered}
 
 pub none_marked : (bs : List Bool) → ((k : ℕ) → k < length bs → get_or bs k false ≡ false) → marked bs ≡ 0
 unfolding marked

@@ -1,5 +1,5 @@
 -- The number of a reckoning is below 10. Assumes nothing.
-use Rattle.std.proofs.Common.{ℕ, ◌<◌, arith}
+use Rattle.std.proofs.Common.{◌<◌, arith}
 use Rattle.command.specs.declared.code.Op.{Op}
 use Rattle.command.specs.declared.code.Op.TheVariants.{Sum, Difference, Product, Quotient, Remainder, And, Or, Either, Left, Right}
 use Rattle.command.specs.Codes.{op_number}

@@ -1,20 +1,18 @@
 -- What the emulator promises of each act, from what its parts promise. Assumes nothing.
-use Rattle.std.proofs.Common.{◌≡◌, ℕ, zero, suc, ◌+◌, ◌-◌, ◌<◌, ◌≤◌, Bool, true, false, List, [], ◌∷◌, ◌++◌, length, get_or, take, drop, Some, None, vec_items, vec_len, vec_capacity, Option, sym, refl, ap, ◌∙◌, subst, add-suc, suc-add, arith, length-append}
-use Rattle.command.specs.Machine.{Instr, State as Model, Word, word_at, step, state_at}
+use Rattle.std.proofs.Common.{◌≡◌, ℕ, suc, ◌+◌, ◌-◌, ◌<◌, ◌≤◌, List, [], ◌∷◌, length, get_or, take, drop, vec_items, vec_capacity, Option, sym, refl, ap, ◌∙◌, subst, arith, length-append}
+use Rattle.command.specs.Machine.{Instr, State as Model, word_at, step}
 use Rattle.command.specs.Plain.{Break, status_number}
 use Rattle.command.specs.Codes.{codes}
-use Rattle.command.proofs.OutsGrow.{Grown, grown_front, outs_grow}
-use Rattle.command.specs.Statements.{OutsGrow}
-use Rattle.target.specs.Run.{Target, came, saw, next, goes, takes_up, looks_regs, looks_words, looks_outs, looks_where, with_state, slot_of, words_of, going}
-use Rattle.target.specs.Acts.{Does, Refuses}
+use Rattle.command.proofs.OutsGrow.{grown_front}
+use Rattle.target.specs.Run.{Target, came, saw, goes, looks_regs, looks_words, looks_outs, looks_where, words_of, going}
+use Rattle.target.specs.Acts.{Does}
 use Rattle.target.specs.Whys.{why_number}
 use Rattle.target.specs.declared.answers.Came.{Came}
 use Rattle.target.specs.declared.answers.Why.{Why}
 use Rattle.target.proofs.Doing.{gone, does_goes, does_regs, does_words, does_outs, does_spot}
-use Rattle.processor.specs.declared.state.State.{State}
 use Rattle.processor.specs.declared.emulator.Emulator.{Emulator}
-use Rattle.processor.specs.Like.{Base, Like, CameTo, held, laid}
-use Rattle.processor.specs.Holding.{base_of, HeldTill, Held}
+use Rattle.processor.specs.Like.{Base, Like, CameTo, held}
+use Rattle.processor.specs.Holding.{base_of, Held}
 use Rattle.processor.specs.Telling.{told_outs}
 use Rattle.processor.proofs.Holds.{went, moved, logged_same}
 

@@ -1,10 +1,10 @@
 -- Lines at the prompt, and what they ask for. Assumes nothing.
-use Rattle.std.proofs.Common.{◌≡◌, List, [], ◌∷◌, Some, None, codes, refl}
+use Rattle.std.proofs.Common.{◌≡◌, [], ◌∷◌, Some, None, codes, refl}
 use Rattle.prompt.specs.Verbs.{choice}
-use Rattle.prompt.specs.Requests.{request, values, right, wrong, nothing, repeat, load, give, forward, where_now, registers, words, outs, help, quit}
+use Rattle.prompt.specs.Requests.{request, values, right, wrong, nothing, repeat, load, give, words, help}
 use Rattle.prompt.specs.declared.verbs.Verb.TheVariants.{Words}
 use Rattle.prompt.specs.declared.quantities.Quantity.TheVariants.{Steps, Count}
-use Rattle.prompt.specs.declared.mistakes.Expected.TheVariants.{Command, MoreLetters, FileName, Number, End}
+use Rattle.prompt.specs.declared.mistakes.Expected.TheVariants.{Command, MoreLetters, Number, End}
 
 in_full : request (codes "words 10, 2") ≡ right (words 10 2)
 unfolding choice

@@ -1,5 +1,5 @@
 -- A loop over numbers to the end of the line: the end, a mistake, one more.
-use Rattle.std.proofs.Common.{◌≡◌, ℕ, zero, suc, ◌-◌, ◌<◌, Bool, true, false, cond, List, [], ◌∷◌, ◌++◌, refl, ap, ◌∙◌, arith}
+use Rattle.std.proofs.Common.{◌≡◌, ℕ, zero, suc, ◌-◌, ◌<◌, true, false, cond, List, [], ◌∷◌, ◌++◌, ap, ◌∙◌, arith}
 use Rattle.prompt.specs.Words.{is_over}
 use Rattle.prompt.specs.declared.mistakes.Expected.{Expected}
 use Rattle.prompt.specs.declared.mistakes.Expected.TheVariants.{FewerNumbers}

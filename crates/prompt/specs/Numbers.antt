@@ -1,5 +1,5 @@
 -- What numbers stand for, how large they may be, and how they are read. Assumes nothing: these are definitions.
-use Rattle.std.specs.Prelude.{ℕ, ◌+◌, ◌-◌, ◌*◌, Bool, true, false, cond, ◌&&◌, List, [], ◌∷◌, length, drop, Some, None, Option, ◌==◌, nat_le, nat_lt, slice_index}
+use Rattle.std.specs.Prelude.{ℕ, ◌+◌, ◌-◌, ◌*◌, Bool, cond, ◌&&◌, List, [], ◌∷◌, length, drop, Some, None, Option, ◌==◌, nat_le, nat_lt, slice_index}
 use Rattle.prompt.specs.declared.quantities.Quantity.{Quantity}
 use Rattle.prompt.specs.declared.quantities.Quantity.TheVariants.{Steps, Value, Address, First, Count}
 

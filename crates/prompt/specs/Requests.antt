@@ -1,6 +1,6 @@
 -- What a line asks for, or the first mistake in it. Assumes nothing: these are definitions.
 -- A reader takes what it reads off the front of a text, and leaves the rest, or stops where something else was expected.
-use Rattle.std.specs.Prelude.{ℕ, zero, suc, ◌+◌, ◌-◌, Bool, true, false, cond, List, [], ◌∷◌, ◌++◌, length, Some, None, Option, ◌==◌}
+use Rattle.std.specs.Prelude.{ℕ, zero, suc, ◌+◌, ◌-◌, cond, List, [], ◌∷◌, ◌++◌, length, Some, None, Option, ◌==◌}
 use Rattle.prompt.specs.Words.{trimmed, word, behind, is_over}
 use Rattle.prompt.specs.Verbs.{choice, verbs}
 use Rattle.prompt.specs.Numbers.{most_of, number}

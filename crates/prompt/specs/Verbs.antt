@@ -1,5 +1,5 @@
 -- The command words, and which of them a word means. Assumes nothing: these are definitions.
-use Rattle.std.specs.Prelude.{ℕ, Bool, true, false, cond, List, [], ◌∷◌, length, take, codes, nat_lt}
+use Rattle.std.specs.Prelude.{ℕ, Bool, cond, List, [], ◌∷◌, length, take, codes, nat_lt}
 use Rattle.std.specs.Str.{bytes_eq}
 use Rattle.prompt.specs.declared.verbs.Verb.{Verb}
 use Rattle.prompt.specs.declared.verbs.Verb.TheVariants.{Load, Give, Forward, Where, Registers, Words, Outs, Help, Quit}

@@ -1,5 +1,5 @@
 -- How a line is cut into words. Assumes nothing: these are definitions.
-use Rattle.std.specs.Prelude.{ℕ, Bool, true, false, cond, not, ◌&&◌, List, [], ◌∷◌, take, drop, ◌==◌}
+use Rattle.std.specs.Prelude.{ℕ, Bool, true, cond, not, ◌&&◌, List, [], ◌∷◌, take, drop, ◌==◌}
 use Rattle.std.specs.List.{prefix_len}
 
 -- a space, a tab, a comma, a carriage return

@@ -1,13 +1,12 @@
 -- What an act makes of a target, from what the processor promises of it. Assumes nothing.
-use Rattle.std.proofs.Common.{◌≡◌, ℕ, ◌+◌, ◌<◌, ◌≤◌, Bool, true, List, [], ◌∷◌, length, take, drop, is_err, Ok, Err, Result, sym, refl, ap, ◌∙◌, subst, arith}
+use Rattle.std.proofs.Common.{◌≡◌, ℕ, ◌+◌, ◌<◌, ◌≤◌, Bool, true, List, [], ◌∷◌, length, take, drop, is_err, Ok, Err, Result, sym, ap, subst, arith}
 use Rattle.std.proofs.lemmas.Bool.{le-leb}
-use Rattle.command.specs.Machine.{each}
-use Rattle.target.specs.Run.{Event, said, came, saw, next, feeds, goes, looks_words, looks_outs, Target, World, Ran, ran, with_state, words_of, one_act}
+use Rattle.target.specs.Run.{Event, said, came, saw, next, feeds, goes, looks_words, looks_outs, Target, World, Ran, ran, words_of, one_act}
 use Rattle.target.specs.Acts.{Does, Feeds}
 use Rattle.target.specs.declared.answers.Fault.{Fault}
 use Rattle.target.specs.declared.answers.Fault.TheVariants.{TooLong, TooManyBreaks, NoSuchSlot, EmptySlot, TooManyNumbers, NoMemory}
 use Rattle.session.specs.declared.debugger.Refusal.{Refusal}
-use Rattle.session.specs.Does.{Stays, gone, Went, Later, Forwards, fed_with}
+use Rattle.session.specs.Does.{Stays, Went, Later, Forwards, fed_with}
 
 abbrev numbers_of : Event → List ℕ
 numbers_of (said ns) = ns

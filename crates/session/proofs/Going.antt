@@ -1,5 +1,5 @@
 -- Going on in strides comes as far as going on at once. Assumes nothing.
-use Rattle.std.proofs.Common.{◌≡◌, ℕ, zero, suc, ◌+◌, ◌-◌, ◌<◌, ◌≤◌, Bool, true, false, List, [], sym, refl, ap, ◌∙◌, subst, arith}
+use Rattle.std.proofs.Common.{◌≡◌, ℕ, zero, suc, ◌+◌, ◌-◌, ◌<◌, ◌≤◌, List, [], sym, refl, ap, ◌∙◌, subst, arith}
 use Rattle.command.specs.Machine.{Instr, State, is_running, step}
 use Rattle.command.proofs.Picks.{by_test}
 use Rattle.target.specs.Run.{Target, Came, with_state, going}

@@ -1,5 +1,5 @@
 -- Numbers in eight bytes as the library writes them. Assumes nothing.
-use Rattle.std.proofs.Common.{◌≡◌, ℕ, ◌/◌, ◌%◌, List, [], ◌∷◌, ◌++◌, sym, refl, ap, ◌∙◌}
+use Rattle.std.proofs.Common.{◌≡◌, ℕ, ◌/◌, ◌%◌, [], ◌∷◌}
 use native.Mathlib.Nat.{div-div-eq-div-mul}
 use Rattle.command.specs.Machine.{in_bytes, eight}
 

@@ -1,8 +1,8 @@
 -- Readers that are exact: what is read was written so, and what is written so is read. One law for each way of making readers.
-use Rattle.std.proofs.Common.{◌≡◌, ℕ, zero, suc, ◌<◌, ◌≤◌, Bool, true, false, ◌&&◌, eqb, ltb, leb, List, [], ◌∷◌, ◌++◌, length, sym, refl, ap, ◌∙◌, subst, append_assoc, arith}
-use Rattle.std.proofs.lemmas.Bool.{and_from, and_parts, ltb-true, leb-true, lt-ltb, eqb-true}
-use Rattle.command.specs.Machine.{pick, every, flat, eight}
-use Rattle.spelling.specs.Spelling.{Got, nothing, got, Reader, bind, only, empty, first, byte, both, as_a, so_many, number, Way, way, one_of, by_first}
+use Rattle.std.proofs.Common.{◌≡◌, ℕ, zero, suc, Bool, true, false, ◌&&◌, eqb, List, [], ◌∷◌, ◌++◌, length, sym, refl, ap, ◌∙◌, subst, append_assoc}
+use Rattle.std.proofs.lemmas.Bool.{and_from, and_parts, eqb-true}
+use Rattle.command.specs.Machine.{pick, every, flat}
+use Rattle.spelling.specs.Spelling.{Got, nothing, got, Reader, bind, only, empty, first, byte, both, as_a, so_many, Way, way, one_of, by_first}
 
 module _ {A : Type 0} (w : A → List ℕ) (ok : A → Bool) where
   -- if something was read from a text, it was written at its front, and is as it should be

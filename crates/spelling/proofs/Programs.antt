@@ -1,13 +1,13 @@
 -- Programs are read just as they are spelled.
-use Rattle.std.proofs.Common.{◌≡◌, ℕ, zero, suc, ◌<◌, ◌≤◌, Bool, true, false, ◌&&◌, ltb, List, [], ◌∷◌, ◌++◌, length, IsErrAnd, Some, None, Ok, Err, Option, Result, Vec, sym, refl, ap, ◌∙◌, subst, append_assoc, append-nil, arith}
+use Rattle.std.proofs.Common.{◌≡◌, ℕ, ◌<◌, Bool, true, ◌&&◌, List, [], ◌∷◌, ◌++◌, length, IsErrAnd, Some, None, Ok, Err, Option, Result, Vec, sym, refl, ap, ◌∙◌, subst, append-nil, arith}
 use Rattle.std.proofs.lemmas.Bool.{lt-ltb}
 use Rattle.std.specs.declared.alloc.Global.{Global}
 use Rattle.command.specs.declared.code.Instr.{Instr as Code}
 use Rattle.spelling.specs.declared.spelled.ReadError.{ReadError}
 use Rattle.spelling.specs.declared.spelled.ReadError.TheVariants.{NoProgram, NoMemory}
-use Rattle.command.specs.Machine.{every, flat, eight, Instr, load_number, copy, reckon, read, write, jump, jump_if, call, return, take_in, put_out, halt}
+use Rattle.command.specs.Machine.{flat, eight, Instr, load_number, copy, reckon, read, write, jump, jump_if, call, return, take_in, put_out, halt}
 use Rattle.command.specs.Plain.{instr_spelled, an_instr, a_word, a_reg}
-use Rattle.spelling.specs.Spelling.{Got, nothing, got, Reader, bind, byte, both, as_a, so_many, Way, below, register, place, word, two, bytes, instr_ways, instr, program, program_spelled, all_of, read_program, Spells, TakesAll, Reads}
+use Rattle.spelling.specs.Spelling.{Got, nothing, got, Reader, bind, byte, both, as_a, so_many, below, register, place, word, two, bytes, instr_ways, instr, program, all_of, read_program, Spells, TakesAll, Reads}
 use Rattle.spelling.proofs.Exact.{Right, Rights, Exact, bind_at, exact_byte, exact_empty, exact_both, WaysRight, by_first_right, way_as, one, so_many_back, so_many_forth}
 use Rattle.spelling.proofs.Digits.{exact_below, exact_bytes, a_u64}
 

@@ -1,11 +1,10 @@
 -- Bytes off the front, one by one, and so many instructions in a loop. Assumes nothing.
-use Rattle.std.proofs.Common.{◌≡◌, ℕ, zero, suc, ◌+◌, ◌-◌, ◌*◌, ◌^◌, ◌<◌, ◌≤◌, Bool, true, false, ltb, List, [], ◌∷◌, ◌++◌, length, get_or, take, drop, sym, refl, ap, ◌∙◌, append_assoc, append-nil, pow-suc, add-one, arith}
+use Rattle.std.proofs.Common.{◌≡◌, ℕ, suc, ◌+◌, ◌-◌, ◌*◌, ◌^◌, ◌<◌, ◌≤◌, ltb, List, [], ◌∷◌, ◌++◌, length, get_or, take, drop, sym, refl, ap, ◌∙◌, append_assoc, append-nil, pow-suc, add-one, arith}
 use native.Mathlib.Nat.{pow-le-pow_right}
 use Rattle.std.proofs.lemmas.Slice.{first_rest}
-use Rattle.std.proofs.lemmas.Bool.{lt-ltb, ne_eqb}
-use Rattle.command.specs.Machine.{pick, Instr}
-use Rattle.spelling.specs.Spelling.{Got, nothing, got, Reader, bind, only, first, bytes, so_many, as_a, Way, one_of}
-use Rattle.spelling.proofs.Exact.{bind_at}
+use Rattle.std.proofs.lemmas.Bool.{lt-ltb}
+use Rattle.command.specs.Machine.{pick}
+use Rattle.spelling.specs.Spelling.{Got, nothing, got, Reader, bind, only, first, bytes, so_many, as_a}
 
 pub first_at : (t : List ℕ) → 0 < length t → first t ≡ got (get_or t 0 0) (take (length t - 1) (drop 1 t))
 first_at t h = ap first (first_rest t 0 h)

@@ -1,6 +1,6 @@
 -- Programs as bytes: their spelling, and a reader of it. Assumes nothing: these are definitions.
 -- A reader takes what it reads off the front of a text, and leaves the rest.
-use Rattle.std.specs.Prelude.{◌≡◌, ℕ, zero, suc, ◌+◌, ◌*◌, ◌<◌, Bool, true, false, ltb, List, [], ◌∷◌, ◌++◌, length, Some, None, Ok, Err, vec_items, Option, Result, Vec, ◌==◌, nat_lt}
+use Rattle.std.specs.Prelude.{◌≡◌, ℕ, zero, suc, ◌+◌, ◌*◌, ◌<◌, Bool, true, ltb, List, [], ◌∷◌, ◌++◌, length, Some, None, Ok, Err, vec_items, Option, Result, Vec, ◌==◌, nat_lt}
 use Rattle.std.specs.declared.alloc.Global.{Global}
 use Rattle.command.specs.Codes.{codes}
 use Rattle.command.specs.Machine.{pick, every, flat, eight, Instr, load_number, copy, reckon, read, write, jump, jump_if, call, return, take_in, put_out, halt}

@@ -1,7 +1,7 @@
 -- A debugger beside a processor that it steers, whatever it is like inside. Assumes nothing: these are definitions.
-use Rattle.std.specs.Prelude.{◌≡◌, ℕ, zero, suc, ◌+◌, ◌-◌, ◌*◌, ◌/◌, ◌%◌, ◌<◌, ◌≤◌, Bool, true, false, not, ◌&&◌, ltb, List, [], ◌∷◌, ◌++◌, length, take, drop, ◌==◌, nat_eq, nat_le, nat_lt}
-use Rattle.command.specs.Machine.{pick, or, every, any, each, those, Instr, State, Status, step, is_running, at_start, word_at}
-use Rattle.command.specs.Plain.{Break, holds, status_number, a_break}
+use Rattle.std.specs.Prelude.{◌≡◌, ℕ, zero, suc, ◌+◌, ◌≤◌, Bool, true, false, not, ◌&&◌, ltb, List, [], ◌∷◌, ◌++◌, length, take, drop, ◌==◌, nat_eq, nat_le, nat_lt}
+use Rattle.command.specs.Machine.{pick, every, any, those, Instr, State, step, is_running, at_start, word_at}
+use Rattle.command.specs.Plain.{Break, holds, status_number}
 
 -- what the debugger is told: a command; how far the processor came, whether a break holds, and why it doesn't go on, if it doesn't; what was looked at;
 -- that the last act is done

@@ -1,13 +1,11 @@
 -- Every state there was, kept by its moment: gone through on and back, and one more. Assumes nothing.
-use Rattle.std.proofs.Common.{◌≡◌, ℕ, zero, suc, ◌+◌, ◌-◌, ◌<◌, ◌≤◌, Bool, true, false, eqb, List, [], ◌∷◌, ◌++◌, length, get_or, set, replicate, Some, None, sym, refl, ap, ◌∙◌, subst, arith, get_or-set_other, get_or-set_same}
-use Rattle.std.proofs.lemmas.Bool.{eqb-true, eqb-false, eq-eqb}
-use Rattle.command.specs.Machine.{pick, each, word_at, Instr, State as Model, state_at, at_start, goes_on, is_running, running, so_many, step}
-use Rattle.command.specs.Statements.{PastSame}
-use Rattle.command.proofs.MoreInput.{past_same}
+use Rattle.std.proofs.Common.{◌≡◌, ℕ, zero, suc, ◌<◌, true, false, eqb, List, [], ◌∷◌, length, get_or, set, replicate, Some, None, sym, refl, ap, ◌∙◌, subst, arith, get_or-set_other, get_or-set_same}
+use Rattle.std.proofs.lemmas.Bool.{eqb-true, eqb-false}
+use Rattle.command.specs.Machine.{pick, each, word_at, Instr, State as Model, state_at, goes_on, is_running, so_many}
 use Rattle.command.proofs.Picks.{by_test}
 use Rattle.trial.specs.declared.moments.Moment.{Moment}
 use Rattle.trial.specs.declared.moments.Written.{Written}
-use Rattle.trial.specs.Moments.{At, Words, Came, Was, wrote, first_moment}
+use Rattle.trial.specs.Moments.{At, Words, Came, first_moment}
 use Rattle.command.specs.Codes.{codes}
 use Rattle.command.specs.declared.code.Instr.{Instr as Code}
 use Rattle.trial.specs.declared.debugger.Numbered.{Numbered}

@@ -2,7 +2,7 @@
 use Rattle.std.proofs.Common.{◌≡◌, ℕ, zero, suc, ◌+◌, ◌-◌, ◌<◌, ◌≤◌, Bool, eqb, ◌⊎◌, List, [], ◌∷◌, ◌++◌, length, get_or, set, Some, None, sym, refl, ap, ◌∙◌, inl, inr, append-nil, add-one, arith, drop-cons}
 use Rattle.std.proofs.lemmas.List.{drop_all}
 use Rattle.std.proofs.lemmas.Bool.{lt-ltb, le-ltb, le-leb}
-use Rattle.command.specs.Machine.{pick, word_at, State as Model, Status, waiting, wrong, copy, reckon, read, write, jump_if, call, return, take_in, put_out, with_reg, with_status, reckoned, reckon_done, taken_in, compared, does, one, step, instr_at, is_running, gone_to}
+use Rattle.command.specs.Machine.{pick, word_at, State as Model, waiting, wrong, copy, reckon, read, write, jump_if, call, return, take_in, put_out, with_reg, reckoned, reckon_done, taken_in, compared, does, one, step, instr_at, is_running, gone_to}
 use Rattle.command.specs.declared.code.Instr.{Instr as Code}
 use Rattle.command.specs.Codes.{code, codes}
 use Rattle.trial.specs.declared.moments.Moment.{Moment}

@@ -1,12 +1,12 @@
 -- What is shown of a state: rows, piece by piece. Assumes nothing.
-use Rattle.std.proofs.Common.{◌≡◌, ℕ, zero, suc, ◌+◌, ◌-◌, ◌<◌, ◌≤◌, min, ◌⊎◌, List, [], ◌∷◌, ◌++◌, length, get_or, take, drop, sym, refl, ap, ◌∙◌, subst, inl, inr, ⊎_elim, append_assoc, append-nil, arith}
+use Rattle.std.proofs.Common.{◌≡◌, ℕ, zero, suc, ◌+◌, ◌-◌, ◌<◌, ◌≤◌, min, ◌⊎◌, List, [], ◌∷◌, ◌++◌, length, get_or, take, drop, sym, refl, ap, ◌∙◌, inl, inr, ⊎_elim, append_assoc, append-nil, arith}
 use Rattle.std.specs.Option.{option_to_list}
 use Rattle.std.proofs.lemmas.List.{take_more, take_all, drop_all, length-drop}
 use Rattle.std.proofs.lemmas.Bool.{cases_lt, lt-ltb, le-ltb}
-use Rattle.command.specs.Machine.{flat, eight, Instr, Word, word_at, State as Model, state_at}
+use Rattle.command.specs.Machine.{flat, eight, Instr, Word, word_at, state_at}
 use Rattle.command.specs.Plain.{words_shown}
 use Rattle.trial.specs.declared.moments.Moment.{Moment}
-use Rattle.trial.specs.Moments.{Words, first_moment}
+use Rattle.trial.specs.Moments.{first_moment}
 use Rattle.trial.specs.Kept.{History}
 
 pub flat_push : {A B : Type 0} (f : A → List B) (xs : List A) (x : A) → flat f (xs ++ x ∷ []) ≡ flat f xs ++ f x

@@ -1,6 +1,6 @@
 -- What the plain debugger answers, command by command. Assumes nothing.
-use Rattle.std.proofs.Common.{◌≡◌, ℕ, zero, suc, ◌+◌, ◌-◌, ◌*◌, ◌<◌, ◌≤◌, Bool, true, false, not, eqb, ltb, leb, List, [], ◌∷◌, ◌++◌, length, take, drop, Some, None, vec_items, Option, sym, refl, ap, ◌∙◌, subst, append_assoc, append-nil, arith}
-use Rattle.command.specs.Machine.{Instr, eight, flat, pick, larger, any, those}
+use Rattle.std.proofs.Common.{◌≡◌, ℕ, suc, ◌+◌, ◌-◌, ◌<◌, ◌≤◌, true, false, not, eqb, ltb, List, [], ◌∷◌, ◌++◌, length, take, drop, None, vec_items, sym, refl, ap, ◌∙◌, subst, append_assoc, append-nil, arith}
+use Rattle.command.specs.Machine.{Instr, eight, flat, any, those}
 use Rattle.command.specs.Plain.{Plain, Break, Command, Turn as Ended, load, give, forward, back, run, rerun, changer, add_break, drop_break, where_now, registers, words_from, outs_from, turn, no, yes_with, moved, moved_turn, changer_turn, last_change, on_till, back_till, apart, at_time, status_number, words_shown, may_step}
 use Rattle.command.proofs.Picks.{by_test}
 use Rattle.std.proofs.lemmas.Bool.{ltb-true, ltb-false, lt-ltb, le-ltb, le-leb, lt-leb}
@@ -11,7 +11,7 @@ use Rattle.command.specs.declared.commands.Order.TheVariants.{Forward, Back, Run
 use Rattle.trial.specs.declared.debugger.Trial.{Trial}
 use Rattle.trial.specs.declared.turns.Turn.{Turn}
 use Rattle.trial.specs.Kept.{Kept}
-use Rattle.trial.specs.Turns.{rows, Answers, Turns}
+use Rattle.trial.specs.Turns.{rows, Answers}
 
 pub one_row : (n : ℕ) → flat eight (n ∷ []) ≡ eight n
 one_row n = append-nil (eight n)

@@ -1,4 +1,4 @@
-use Rattle.std.proofs.Common.{sym, ap, ◌∙◌}
+use Rattle.std.proofs.Common.{sym, ◌∙◌}
 use Rattle.assembler.proofs.Places.{place_at, place_end}
 use Rattle.assembler.proofs.labels.place_of.Goals as goal
 

@@ -1,4 +1,4 @@
-use Rattle.std.proofs.Common.{◌≡◌, Ok, ap, ◌∙◌, rules}
+use Rattle.std.proofs.Common.{◌≡◌, Ok, rules}
 use Rattle.assembler.specs.Source.{assembled, assembly_of}
 use Rattle.assembler.proofs.Loads.{assembled_loads}
 use Rattle.assembler.proofs.source.assemble.Goals as goal

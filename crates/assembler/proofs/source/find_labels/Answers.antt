@@ -1,4 +1,4 @@
-use Rattle.std.proofs.Common.{◌≡◌, ◌<◌, List, [], length, vec_items, sym, ap, ◌∙◌, arith, eqb-true}
+use Rattle.std.proofs.Common.{◌<◌, List, [], length, vec_items, sym, ap, ◌∙◌, arith, eqb-true}
 use borrow.Author.Tests.{eqb-false}
 use Rattle.assembler.specs.declared.labels.Label.{Label as Code}
 use Rattle.assembler.specs.Instructions.{labels_of}

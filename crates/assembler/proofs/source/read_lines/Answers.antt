@@ -1,4 +1,4 @@
-use Rattle.std.proofs.Common.{◌≡◌, ◌<◌, [], length, vec_items, sym, ap, ◌∙◌, arith, eqb-true}
+use Rattle.std.proofs.Common.{◌<◌, [], length, vec_items, sym, ◌∙◌, arith, eqb-true}
 use borrow.Author.Tests.{eqb-false}
 use Rattle.command.specs.Codes.{codes}
 use Rattle.assembler.specs.Instructions.{labels_of}

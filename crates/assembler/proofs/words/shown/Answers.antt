@@ -1,5 +1,5 @@
 use Rattle.std.proofs.Common.{ap, ◌∙◌, rules}
-use Rattle.std.proofs.lemmas.List.{take_more, take_all}
+use Rattle.std.proofs.lemmas.List.{take_all}
 use Rattle.command.specs.Machine.{each}
 use Rattle.assembler.specs.Words.{printable}
 use Rattle.assembler.proofs.Runs.{each_more}

@@ -1,5 +1,4 @@
-use Rattle.std.proofs.Common.{◌≤◌, length, sym, ◌∙◌, arith}
-use Rattle.std.proofs.lemmas.List.{take_all, drop_all}
+use Rattle.std.proofs.Common.{sym, ◌∙◌}
 use Rattle.assembler.specs.Words.{in_class}
 use Rattle.assembler.proofs.Runs.{run_more, run_stop, run_end}
 use Rattle.assembler.proofs.words.split_while.Goals as goal

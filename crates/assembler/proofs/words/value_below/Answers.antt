@@ -1,4 +1,4 @@
-use Rattle.std.proofs.Common.{◌≡◌, sym, ◌∙◌, rules}
+use Rattle.std.proofs.Common.{sym, ◌∙◌, rules}
 use Rattle.assembler.proofs.Values.{value_no_digit, value_over, value_turn, value_end}
 use Rattle.assembler.proofs.words.value_below.Goals as goal
 

@@ -1,6 +1,6 @@
-use Rattle.std.proofs.Common.{◌≡◌, ℕ, suc, ◌+◌, ◌-◌, ◌/◌, ◌%◌, Some, None, sym, refl, ap, ◌∙◌, subst, arith}
+use Rattle.std.proofs.Common.{Some, sym, refl, ap, ◌∙◌, subst, arith}
 use Rattle.checkpoints.specs.Policy.{slot}
-use Rattle.checkpoints.specs.Arrivals.{SlotFew, arrival_from, arrival_slot}
+use Rattle.checkpoints.specs.Arrivals.{SlotFew, arrival_slot}
 use Rattle.checkpoints.proofs.Arriving.{at_point, in_block, at_end, above_keeps, at_top, top_point, past_top, arrival_few}
 use Rattle.checkpoints.proofs.arrivals.arrival.Goals as goal
 

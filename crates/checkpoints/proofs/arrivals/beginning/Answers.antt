@@ -1,4 +1,4 @@
-use Rattle.std.proofs.Common.{cond, sym, ap, subst, arith}
+use Rattle.std.proofs.Common.{arith}
 use Rattle.std.proofs.lemmas.Bool.{le-leb, lt-leb}
 use Rattle.checkpoints.specs.Arrivals.{beginning_slot}
 use Rattle.checkpoints.proofs.arrivals.beginning.Goals as goal

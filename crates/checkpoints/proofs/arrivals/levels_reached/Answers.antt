@@ -1,5 +1,5 @@
-use Rattle.std.proofs.Common.{◌≡◌, ℕ, suc, ◌+◌, ◌-◌, ◌/◌, ◌%◌, sym, refl, ap, ◌∙◌, arith}
-use Rattle.checkpoints.specs.Arrivals.{reached, levels_reached}
+use Rattle.std.proofs.Common.{arith}
+use Rattle.checkpoints.specs.Arrivals.{levels_reached}
 use Rattle.checkpoints.proofs.Arriving.{no_more, one_more, none_left}
 use Rattle.checkpoints.proofs.arrivals.levels_reached.Goals as goal
 

@@ -1,6 +1,6 @@
-use Rattle.std.proofs.Common.{◌≡◌, ℕ, zero, suc, ◌+◌, ◌-◌, ◌*◌, ◌/◌, ◌%◌, ◌^◌, ◌<◌, ◌≤◌, length, get_or, drop, sym, refl, ap, ◌∙◌, mul-le-mul_right, pow-suc, add-one, arith}
+use Rattle.std.proofs.Common.{◌≡◌, suc, ◌+◌, ◌-◌, ◌*◌, ◌/◌, ◌%◌, ◌≤◌, get_or, drop, refl, ap, ◌∙◌, mul-le-mul_right, pow-suc, add-one, arith}
 use Rattle.std.proofs.lemmas.List.{drop_all}
-use Rattle.checkpoints.specs.Policy.{last_kept, last_from, Kept, slot}
+use Rattle.checkpoints.specs.Policy.{last_kept, last_from, slot}
 use Rattle.checkpoints.proofs.LevelUp.{in_block, below_point, below_next, level_up, spacing_small, turn, both}
 use Rattle.checkpoints.proofs.kept.last_kept.Goals as goal
 

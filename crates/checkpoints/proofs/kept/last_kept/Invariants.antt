@@ -1,4 +1,4 @@
-use Rattle.std.proofs.Common.{◌≡◌, ℕ, ◌+◌, ◌-◌, ◌*◌, ◌^◌, ◌<◌, ◌≤◌, drop}
+use Rattle.std.proofs.Common.{◌≡◌, ◌-◌, ◌*◌, ◌^◌, ◌≤◌, drop}
 use Rattle.checkpoints.specs.Policy.{last_kept, last_from}
 use Rattle.checkpoints.proofs.kept.last_kept.Given as goal
 

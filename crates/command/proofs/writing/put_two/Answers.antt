@@ -1,4 +1,4 @@
-use Rattle.std.proofs.Common.{[], ◌∷◌, ◌++◌, vec_items}
+use Rattle.std.proofs.Common.{◌∷◌, vec_items}
 use Rattle.command.specs.Machine.{eight}
 use Rattle.command.proofs.Writes.{puts_then}
 use Rattle.command.proofs.writing.put_two.Goals as goal

@@ -1,4 +1,4 @@
-use Rattle.std.proofs.Common.{◌≡◌, ◌∙◌}
+use Rattle.std.proofs.Common.{◌∙◌}
 use Rattle.machine.specs.declared.acts.Told.TheVariants.{Feeds}
 use Rattle.driver.proofs.Serving.{as_heard, heard_sound, feeds_few, feeds_words, fed}
 use Rattle.driver.proofs.Seen.{blank_length}

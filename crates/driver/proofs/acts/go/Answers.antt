@@ -1,4 +1,4 @@
-use Rattle.std.proofs.Common.{get_or, take, refl}
+use Rattle.std.proofs.Common.{get_or, take}
 use Rattle.machine.specs.declared.acts.Told.TheVariants.{Goes}
 use Rattle.driver.proofs.Serving.{as_heard, came_sound, goes_few, goes_read, went}
 use Rattle.driver.proofs.Seen.{rest_all}

@@ -1,4 +1,4 @@
-use Rattle.std.proofs.Common.{◌≡◌, length, get_or, take, sym, arith}
+use Rattle.std.proofs.Common.{◌≡◌, length, get_or, take, arith}
 use Rattle.std.proofs.lemmas.List.{take-append-le}
 use Rattle.driver.proofs.Serving.{saw_outs, outs_few}
 use Rattle.driver.proofs.Seen.{front_length}

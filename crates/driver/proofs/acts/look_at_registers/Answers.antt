@@ -1,4 +1,4 @@
-use Rattle.std.proofs.Common.{◌≡◌, take, sym, ap, ◌∙◌, arith, lit≤}
+use Rattle.std.proofs.Common.{◌≡◌, take, ap, ◌∙◌, arith, lit≤}
 use Rattle.std.proofs.lemmas.List.{take_all}
 use Rattle.driver.proofs.Serving.{saw_regs}
 use Rattle.driver.proofs.Seen.{copied_more}

@@ -1,4 +1,4 @@
-use Rattle.std.proofs.Common.{◌≡◌, length, get_or, take, sym, arith}
+use Rattle.std.proofs.Common.{◌≡◌, length, get_or, take, arith}
 use Rattle.std.proofs.lemmas.List.{take_at}
 use Rattle.driver.proofs.Serving.{saw_words, words_few}
 use Rattle.driver.proofs.Seen.{front_length}

@@ -1,4 +1,4 @@
-use Rattle.std.proofs.Common.{◌≡◌, [], ◌∷◌, sym, ap, ◌∙◌, arith, lit≤}
+use Rattle.std.proofs.Common.{[], ◌∷◌, ap, ◌∙◌, arith, lit≤}
 use Rattle.driver.proofs.Serving.{saw_place}
 use Rattle.driver.proofs.Seen.{two_set}
 use Rattle.driver.proofs.acts.look_where.Goals as goal

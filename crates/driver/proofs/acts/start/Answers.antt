@@ -1,4 +1,3 @@
-use Rattle.std.proofs.Common.{◌≡◌, sym, subst}
 use Rattle.machine.specs.declared.acts.Told.TheVariants.{Starts}
 use Rattle.driver.proofs.Serving.{as_heard, heard_sound, starts_few, starts_read, started}
 use Rattle.driver.proofs.Seen.{blank_length}

@@ -1,4 +1,4 @@
-use Rattle.std.proofs.Common.{◌≡◌, ℕ, suc, ◌+◌, ◌-◌, ◌%◌, [], length, sym, refl, ap, arith}
+use Rattle.std.proofs.Common.{◌≡◌, suc, ◌+◌, ◌-◌, ◌%◌, [], length, sym, refl, ap, arith}
 use Rattle.machine.specs.Promise.{most_turns}
 use Rattle.driver.specs.Says.{limit, Went}
 use Rattle.driver.proofs.Turns.{begins, so_far, follows_meant, follows_sound, turn_on, turn_ends, turn_no_memory, turn_twice, runs_out}

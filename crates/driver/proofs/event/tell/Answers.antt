@@ -1,5 +1,5 @@
-use Rattle.std.proofs.Common.{◌≡◌, ℕ, ◌-◌, eqb, take, drop, sym, refl, ap, ◌∙◌, arith, lit≤}
-use Rattle.target.specs.Run.{came, saw}
+use Rattle.std.proofs.Common.{sym, ap, ◌∙◌, lit≤}
+use Rattle.target.specs.Run.{came}
 use Rattle.driver.specs.Carried.{meant}
 use Rattle.driver.proofs.Stepped.{stepped}
 use Rattle.driver.proofs.event.tell.Goals as goal

@@ -1,4 +1,4 @@
-use Rattle.std.proofs.Common.{◌≡◌, ℕ, suc, ◌+◌, ◌-◌, ◌<◌, List, [], length, take, sym, refl, ap, ◌∙◌, subst, arith, length-set}
+use Rattle.std.proofs.Common.{◌≡◌, suc, ◌+◌, ◌-◌, ◌<◌, [], length, take, sym, ap, ◌∙◌, subst, arith, length-set}
 use Rattle.command.specs.Breaks.{break_of, breaks_of}
 use Rattle.command.specs.Reader.{got, break}
 use Rattle.command.specs.Taken.{left}

@@ -1,4 +1,4 @@
-use Rattle.std.proofs.Common.{is_ok, sym, ap, ◌∙◌, subst}
+use Rattle.std.proofs.Common.{is_ok, sym, ap, subst}
 use Rattle.listing.specs.Columns.{Wide}
 use Rattle.listing.specs.declared.columns.Counter.{Counter}
 use Rattle.listing.proofs.Counts.{wide}

@@ -1,8 +1,7 @@
-use Rattle.std.proofs.Common.{◌≡◌, ℕ, ◌+◌, ◌<◌, ◌≤◌, Bool, true, false, ◌&&◌, ltb, ◌⊎◌, List, [], ◌∷◌, sym, refl, ap, ◌∙◌, subst, inl, inr, arith}
+use Rattle.std.proofs.Common.{◌≡◌, ℕ, ◌<◌, ◌≤◌, ◌⊎◌, List, [], ◌∷◌, sym, ap, inl, inr, arith}
 use Rattle.std.proofs.lemmas.Bool.{lt-ltb, le-ltb}
-use Rattle.command.specs.Machine.{reckoned, pick}
+use Rattle.command.specs.Machine.{reckoned}
 use Rattle.processor.specs.Reckons.{reckon_reply, reply_of}
-use Rattle.processor.specs.declared.arith.Reply.{Reply}
 use Rattle.processor.specs.declared.arith.Reply.TheVariants.{Refused}
 use Rattle.command.specs.Codes.{op_number}
 use Rattle.processor.proofs.Ops.{op_below}

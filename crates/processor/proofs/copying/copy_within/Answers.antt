@@ -1,4 +1,4 @@
-use Rattle.std.proofs.Common.{◌≡◌, ◌+◌, ◌*◌, ◌<◌, length, get_or, refl, arith}
+use Rattle.std.proofs.Common.{◌≡◌, ◌+◌, ◌*◌, ◌<◌, length, get_or, arith}
 use Rattle.processor.proofs.Copies.{copied_none, copied_more, copied_all, copied_other}
 use Rattle.processor.proofs.copying.copy_within.Goals as goal
 

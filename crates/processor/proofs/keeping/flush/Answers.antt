@@ -1,4 +1,4 @@
-use Rattle.std.proofs.Common.{◌≡◌, ◌+◌, ◌<◌, true, false, length, get_or, sym, refl, ap, ◌∙◌, subst, arith}
+use Rattle.std.proofs.Common.{◌≡◌, ◌+◌, ◌<◌, true, false, length, sym, refl, ◌∙◌, subst, arith}
 use Rattle.processor.proofs.Flushes.{Flushing, flushed_more, flushed_already}
 use Rattle.processor.proofs.Defaults.{other_default}
 use Rattle.processor.proofs.keeping.flush.Goals as goal

@@ -1,4 +1,4 @@
-use Rattle.std.proofs.Common.{◌≡◌, ℕ, ◌+◌, ◌*◌, ◌/◌, ◌%◌, ◌<◌, ◌≤◌, true, false, eqb, List, length, get_or, vec_items, vec_len, sym, refl, ap, ◌∙◌, subst, arith}
+use Rattle.std.proofs.Common.{◌≡◌, ℕ, ◌+◌, ◌*◌, ◌/◌, ◌%◌, ◌<◌, eqb, get_or, vec_items, sym, ap, ◌∙◌, arith}
 use Rattle.command.specs.Machine.{pick}
 use Rattle.processor.specs.Held.{held_word}
 use Rattle.processor.specs.declared.pages.Pages.{Pages}

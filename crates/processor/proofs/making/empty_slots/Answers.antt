@@ -1,4 +1,4 @@
-use Rattle.std.proofs.Common.{◌≡◌, ◌+◌, get_or, None, vec_items, ap, ◌∙◌}
+use Rattle.std.proofs.Common.{◌+◌, get_or, None, vec_items, ap, ◌∙◌}
 use Rattle.processor.proofs.Defaults.{defaults_push}
 use Rattle.processor.proofs.making.empty_slots.Goals as goal
 

@@ -1,4 +1,4 @@
-use Rattle.std.proofs.Common.{◌≡◌, ℕ, ◌+◌, ◌≤◌, take, vec_items, vec_len, vec_capacity}
+use Rattle.std.proofs.Common.{◌≡◌, ◌+◌, ◌≤◌, take, vec_items, vec_len, vec_capacity}
 use Rattle.processor.specs.Pages.{marked, Gathered}
 use Rattle.processor.proofs.store.gather.Given as goal
 

@@ -1,4 +1,4 @@
-use Rattle.std.proofs.Common.{◌≡◌, ℕ, ◌+◌, ◌<◌, true, false, length, get_or, ap, ◌∙◌, arith, below_more}
+use Rattle.std.proofs.Common.{◌<◌, false, length, get_or, arith, below_more}
 use Rattle.processor.proofs.Marks.{none_marked, one_marked, mark_stays, mark_there}
 use Rattle.processor.proofs.Defaults.{default_stays, default_there}
 use Rattle.processor.proofs.store.mark.Goals as goal

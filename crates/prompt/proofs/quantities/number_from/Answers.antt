@@ -1,4 +1,4 @@
-use Rattle.std.proofs.Common.{◌≡◌, ℕ, ◌≤◌, sym, ◌∙◌, subst, arith, rules}
+use Rattle.std.proofs.Common.{sym, ◌∙◌, arith, rules}
 use Rattle.prompt.proofs.Digits.{digits_stop, digits_more, digits_all}
 use Rattle.prompt.proofs.quantities.number_from.Goals as goal
 

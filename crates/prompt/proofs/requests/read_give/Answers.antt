@@ -1,4 +1,4 @@
-use Rattle.std.proofs.Common.{◌≡◌, [], ◌∷◌, ◌++◌, sym, ap, ◌∙◌, arith, rules}
+use Rattle.std.proofs.Common.{[], ◌∷◌, ◌++◌, sym, ◌∙◌, rules}
 use Rattle.prompt.proofs.Values.{values_over, values_slip, values_more}
 use Rattle.prompt.proofs.requests.read_give.Goals as goal
 

@@ -1,6 +1,5 @@
-use Rattle.std.proofs.Common.{◌≡◌, sym, ◌∙◌, arith}
+use Rattle.std.proofs.Common.{sym, ◌∙◌}
 use Rattle.prompt.specs.Verbs.{verbs}
-use Rattle.prompt.specs.declared.verbs.Verb.TheVariants.{Load}
 use Rattle.prompt.proofs.Choices.{choice_more, choice_all}
 use Rattle.prompt.proofs.verbs.choose.Goals as goal
 

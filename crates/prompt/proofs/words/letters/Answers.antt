@@ -1,4 +1,4 @@
-use Rattle.std.proofs.Common.{◌≡◌, sym, ◌∙◌, arith}
+use Rattle.std.proofs.Common.{sym, ◌∙◌, arith}
 use Rattle.prompt.specs.Words.{in_word}
 use Rattle.prompt.proofs.Runs.{run_stop, run_more, run_all}
 use Rattle.prompt.proofs.words.letters.Goals as goal

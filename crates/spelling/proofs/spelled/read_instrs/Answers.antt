@@ -1,4 +1,4 @@
-use Rattle.std.proofs.Common.{◌≡◌, suc, ◌+◌, ◌-◌, List, [], ◌∷◌, ◌++◌, vec_items, sym, ap, ◌∙◌, arith}
+use Rattle.std.proofs.Common.{◌≡◌, suc, ◌+◌, ◌-◌, List, ◌++◌, vec_items, sym, ap, ◌∙◌, arith}
 use Rattle.command.specs.Codes.{code, codes}
 use Rattle.command.specs.Machine.{Instr}
 use Rattle.command.specs.declared.code.Instr.{Instr as Code}

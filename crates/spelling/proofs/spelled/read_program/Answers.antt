@@ -1,4 +1,4 @@
-use Rattle.std.proofs.Common.{◌≡◌, length, vec_items, sym, ap, ◌∙◌, eqb-true}
+use Rattle.std.proofs.Common.{length, vec_items, sym, ap, ◌∙◌, eqb-true}
 use borrow.Author.Tests.{eqb-false}
 use Rattle.command.specs.Codes.{codes}
 use Rattle.spelling.specs.Spelling.{instr, left, so_many, all_of}

@@ -1,6 +1,6 @@
-use Rattle.std.proofs.Common.{◌≡◌, ℕ, ◌+◌, ◌-◌, ◌*◌, ◌%◌, ◌<◌, eqb, List, [], ◌∷◌, sym, refl, ap, ◌∙◌, arith}
+use Rattle.std.proofs.Common.{◌≡◌, ◌+◌, ◌-◌, ◌%◌, arith}
 use Rattle.std.proofs.lemmas.Bool.{eq-eqb, ne_eqb}
-use Rattle.command.specs.Machine.{reckoned, whole, pick}
+use Rattle.command.specs.Machine.{reckoned, whole}
 use Rattle.command.proofs.Reckons.{and_bits, or_bits, xor_bits, twice_shifts, halved_shifts}
 use Rattle.trial.proofs.arith.reckoned.Goals as goal
 

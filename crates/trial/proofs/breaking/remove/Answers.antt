@@ -1,4 +1,4 @@
-use Rattle.std.proofs.Common.{◌≡◌, not, eqb, vec_items, sym, ap, ◌∙◌, arith}
+use Rattle.std.proofs.Common.{not, eqb, vec_items, sym, ap, ◌∙◌, arith}
 use Rattle.std.proofs.lemmas.Bool.{eq-eqb, ne_eqb}
 use Rattle.trial.specs.Kept.{break_numbered}
 use Rattle.trial.proofs.Removing.{split_keep, split_drop, split_all}

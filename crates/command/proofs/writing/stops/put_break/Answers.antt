@@ -1,4 +1,4 @@
-use Rattle.std.proofs.Common.{◌≡◌, ℕ, ◌-◌, ◌++◌, length, take, vec_items, sym, ap, ◌∙◌, arith, length-take}
+use Rattle.std.proofs.Common.{◌≡◌, ◌-◌, ◌++◌, length, take, vec_items, sym, ap, ◌∙◌, arith, length-take}
 use Rattle.std.specs.Option.{option_to_list}
 use Rattle.command.specs.Machine.{eight, flat}
 use Rattle.command.specs.Plain.{numbers, test_spelled, break_spelled}

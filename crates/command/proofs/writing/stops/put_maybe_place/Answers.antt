@@ -1,4 +1,4 @@
-use Rattle.std.proofs.Common.{ℕ, [], ◌∷◌, ◌++◌, vec_items, Option, sym, ap, subst, append-nil}
+use Rattle.std.proofs.Common.{ℕ, [], ◌++◌, vec_items, Option, sym, ap, subst, append-nil}
 use Rattle.std.specs.Option.{option_to_list}
 use Rattle.command.specs.Plain.{numbers}
 use Rattle.command.specs.Written.{Puts}

@@ -1,4 +1,4 @@
-use Rattle.std.proofs.Common.{◌≡◌, [], ◌∷◌, ◌++◌, vec_items}
+use Rattle.std.proofs.Common.{◌≡◌, ◌∷◌, ◌++◌, vec_items}
 use Rattle.command.specs.Machine.{eight}
 use Rattle.command.specs.Breaks.{test_of}
 use Rattle.command.specs.Plain.{test_spelled}

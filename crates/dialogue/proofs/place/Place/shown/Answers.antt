@@ -1,4 +1,4 @@
-use Rattle.std.proofs.Common.{◌≡◌, ℕ, List, [], ◌∷◌, length, get_or, Some, None, Option, sym, refl, ap, ◌∙◌, arith, rules}
+use Rattle.std.proofs.Common.{◌≡◌, ℕ, List, [], ◌∷◌, length, get_or, Some, None, Option, sym, ap, ◌∙◌, arith, rules}
 use Rattle.command.specs.Plain.{status_number}
 use Rattle.target.specs.declared.answers.Why.{Why}
 use Rattle.target.specs.declared.answers.Why.TheVariants.{Halted, Waits, NoInstr, NoWord, ByZero}

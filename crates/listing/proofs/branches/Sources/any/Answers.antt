@@ -1,6 +1,5 @@
-use Rattle.std.proofs.Common.{sym, ap, ◌∙◌}
-use Rattle.command.specs.Machine.{or}
-use Rattle.listing.proofs.Turns.{branch_at, branch_end, branch_here, branch_not_here}
+use Rattle.std.proofs.Common.{sym, ◌∙◌}
+use Rattle.listing.proofs.Turns.{branch_end, branch_here, branch_not_here}
 use Rattle.listing.proofs.branches.Sources.any.Goals as goal
 
 pub returns-then-is_of : goal.returns-then-is_of

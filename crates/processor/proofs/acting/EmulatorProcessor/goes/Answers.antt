@@ -1,4 +1,4 @@
-use Rattle.std.proofs.Common.{◌≡◌, ◌<◌, ◌≤◌, length, vec_items, sym, refl, ap, ◌∙◌, arith}
+use Rattle.std.proofs.Common.{◌≤◌, length, refl, ap, arith}
 use Rattle.command.specs.Codes.{codes}
 use Rattle.command.specs.Breaks.{break_of, breaks_of}
 use Rattle.target.proofs.Doing.{each_length, refuses_goes}

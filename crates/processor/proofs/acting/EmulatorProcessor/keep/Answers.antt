@@ -1,4 +1,4 @@
-use Rattle.std.proofs.Common.{◌≡◌, refl, arith}
+use Rattle.std.proofs.Common.{refl}
 use Rattle.target.proofs.Doing.{does_keeps, refuses_keeps}
 use Rattle.processor.specs.Holding.{Held}
 use Rattle.processor.proofs.Holds.{kept_held}

@@ -1,4 +1,4 @@
-use Rattle.std.proofs.Common.{◌≡◌, ◌<◌, length, get_or, Some, None, vec_items, Option, sym, refl, ap, ◌∙◌, subst, arith}
+use Rattle.std.proofs.Common.{◌≡◌, ◌<◌, length, get_or, Some, None, vec_items, Option, sym, refl, ap, ◌∙◌, arith}
 use Rattle.processor.specs.declared.kept.Kept.{Kept}
 use Rattle.target.proofs.Doing.{does_takes, refuses_takes}
 use Rattle.processor.specs.Holding.{Held}

@@ -1,4 +1,4 @@
-use Rattle.std.proofs.Common.{◌≡◌, ℕ, ◌+◌, length, get_or, sym, refl, ap, ◌∙◌, subst, arith}
+use Rattle.std.proofs.Common.{◌≡◌, ◌+◌, length, get_or, refl, ap, ◌∙◌, subst, arith}
 use Rattle.target.specs.Acts.{Does}
 use Rattle.target.specs.Run.{looks_words, saw}
 use Rattle.target.proofs.Doing.{refuses_words}

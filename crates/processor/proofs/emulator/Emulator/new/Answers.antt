@@ -1,4 +1,4 @@
-use Rattle.std.proofs.Common.{◌≡◌, [], drop, vec_items, sym, refl, ap, ◌∙◌, subst, arith}
+use Rattle.std.proofs.Common.{[], sym, refl, ap, subst, arith}
 use Rattle.command.specs.Machine.{state_at, is_running, at_start}
 use Rattle.command.specs.Codes.{codes}
 use Rattle.target.specs.Run.{slot_of}

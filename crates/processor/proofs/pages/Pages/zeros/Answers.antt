@@ -1,7 +1,7 @@
-use Rattle.std.proofs.Common.{◌≡◌, ℕ, ◌<◌, ◌≤◌, true, false, length, get_or, drop, replicate, vec_items, vec_len, sym, ap, ◌∙◌, subst, arith}
+use Rattle.std.proofs.Common.{◌≡◌, ℕ, ◌<◌, ◌≤◌, true, false, length, get_or, drop, vec_items, sym, ap, ◌∙◌, subst, arith}
 use lib.ListN.{length-replicate}
 use Rattle.std.proofs.lemmas.List.{take_at}
-use Rattle.processor.specs.Pages.{marked, Gathered, Inside}
+use Rattle.processor.specs.Pages.{marked, Gathered}
 use Rattle.processor.proofs.Rows.{gathered_apart, zeros_inside}
 use Rattle.processor.proofs.pages.Pages.zeros.Goals as goal
 

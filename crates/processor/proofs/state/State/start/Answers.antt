@@ -1,4 +1,4 @@
-use Rattle.std.proofs.Common.{◌≡◌, [], sym, refl, ap, ◌∙◌}
+use Rattle.std.proofs.Common.{sym, refl}
 use Rattle.command.specs.Machine.{word_at, so_many}
 use Rattle.processor.proofs.state.State.start.Goals as goal
 

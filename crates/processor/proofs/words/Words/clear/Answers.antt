@@ -1,4 +1,4 @@
-use Rattle.std.proofs.Common.{◌≡◌, length, get_or, drop, vec_items, ap, ◌∙◌, arith}
+use Rattle.std.proofs.Common.{length, get_or, drop, ap, ◌∙◌, arith}
 use Rattle.std.proofs.lemmas.List.{take_at}
 use Rattle.processor.specs.Held.{held_word}
 use Rattle.processor.proofs.Flushes.{dirty_clean}

@@ -1,4 +1,4 @@
-use Rattle.std.proofs.Common.{◌≡◌, ◌+◌, ◌*◌, ◌/◌, ◌%◌, eqb, get_or, vec_items, sym, refl, ap, ◌∙◌, arith}
+use Rattle.std.proofs.Common.{◌+◌, ◌*◌, ◌/◌, ◌%◌, eqb, get_or, vec_items, sym, refl, ap, ◌∙◌}
 use Rattle.command.specs.Machine.{pick}
 use Rattle.processor.specs.Held.{held_word}
 use Rattle.processor.proofs.Flushes.{pick_same}

@@ -1,8 +1,6 @@
-use Rattle.std.proofs.Common.{◌≡◌, ℕ, ◌<◌, eqb, length, get_or, drop, vec_items, sym, refl, ap, ◌∙◌, arith}
+use Rattle.std.proofs.Common.{◌≡◌, length, get_or, drop, sym, ap, ◌∙◌, arith}
 use Rattle.std.proofs.lemmas.List.{take_at}
 use Rattle.std.proofs.lemmas.Bool.{ne_eqb}
-use Rattle.command.specs.Machine.{pick}
-use Rattle.processor.specs.Held.{held_word}
 use Rattle.processor.proofs.words.Words.take_up.Goals as goal
 
 pub invariant_of-self : goal.invariant_of-self

@@ -1,4 +1,4 @@
-use Rattle.std.proofs.Common.{◌≡◌, ◌-◌, [], ◌∷◌, ◌++◌, vec_items, sym, ap, ◌∙◌, arith}
+use Rattle.std.proofs.Common.{◌-◌, vec_items, sym, ap, ◌∙◌}
 use Rattle.prompt.specs.Requests.{the_numbers, values}
 use Rattle.prompt.proofs.Values.{values_over, values_slip, values_more}
 use Rattle.prompt.proofs.requests.Numbers.to_vec.Goals as goal

@@ -1,4 +1,4 @@
-use Rattle.std.proofs.Common.{◌≡◌, ℕ, ◌+◌, ◌-◌, ◌<◌, sym, ◌∙◌, subst, arith}
+use Rattle.std.proofs.Common.{◌≡◌, ℕ, ◌+◌, ◌-◌, ◌<◌, ◌∙◌, subst, arith}
 use Rattle.session.specs.Strides.{stride}
 use Rattle.session.specs.Does.{Went}
 use Rattle.session.proofs.Going.{went_none, went_on, went_stuck, went_same}

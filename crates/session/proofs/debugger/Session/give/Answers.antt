@@ -1,5 +1,5 @@
 use Rattle.std.proofs.Common.{refl, arith}
-use Rattle.session.proofs.Done.{fed_by, not_fed}
+use Rattle.session.proofs.Done.{fed_by}
 use Rattle.session.proofs.debugger.Session.give.Goals as goal
 
 pub returns : goal.returns

@@ -1,9 +1,8 @@
-use Rattle.std.proofs.Common.{◌≡◌, ℕ, [], ◌∙◌, subst, arith}
+use Rattle.std.proofs.Common.{ℕ, [], subst, arith}
 use Rattle.target.specs.Run.{goes, came}
 use Rattle.target.specs.Acts.{Does}
 use Rattle.target.specs.Whys.{why_number}
 use Rattle.session.specs.Strides.{stride}
-use Rattle.session.specs.Does.{gone}
 use Rattle.session.proofs.Going.{gone_few}
 use Rattle.session.proofs.Done.{went_by}
 use Rattle.session.proofs.debugger.Session.go.Goals as goal

@@ -1,5 +1,5 @@
 use Rattle.std.proofs.Common.{◌≡◌, suc, ◌+◌, ◌-◌, sym, ◌∙◌, arith}
-use Rattle.spelling.specs.Spelling.{bytes, left}
+use Rattle.spelling.specs.Spelling.{left}
 use Rattle.spelling.proofs.Turns.{bytes_none, bytes_more, bytes_done, next_power, fits_eight}
 use Rattle.spelling.proofs.spelled.Spelled.number.Goals as goal
 

@@ -1,6 +1,6 @@
-use Rattle.std.proofs.Common.{◌≡◌, ◌<◌, ◌≤◌, [], ◌∷◌, ◌++◌, length, vec_items, sym, refl, ap, ◌∙◌, arith}
+use Rattle.std.proofs.Common.{◌<◌, ◌≤◌, [], ◌∷◌, length, vec_items, sym, refl, ap, ◌∙◌, arith}
 use Rattle.command.specs.Breaks.{break_of}
-use Rattle.command.specs.Machine.{flat, eight, each}
+use Rattle.command.specs.Machine.{flat, eight}
 use Rattle.command.specs.Plain.{add_break}
 use Rattle.command.proofs.Writes.{each_length}
 use Rattle.trial.specs.Kept.{break_numbered}

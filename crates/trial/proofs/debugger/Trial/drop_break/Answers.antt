@@ -1,4 +1,4 @@
-use Rattle.std.proofs.Common.{◌≡◌, true, false, eqb, vec_items, sym, ap, ◌∙◌, arith}
+use Rattle.std.proofs.Common.{eqb, vec_items, sym, ap, ◌∙◌}
 use Rattle.command.specs.Machine.{any, each}
 use Rattle.command.specs.Plain.{drop_break}
 use Rattle.trial.specs.Kept.{break_numbered}

@@ -1,4 +1,4 @@
-use Rattle.std.proofs.Common.{◌≡◌, [], sym, ◌∙◌}
+use Rattle.std.proofs.Common.{[], sym, ◌∙◌}
 use Rattle.command.specs.Plain.{moved}
 use Rattle.trial.proofs.Loops.{moved_as, on_stuck, on_done, on_more, none_holds}
 use Rattle.trial.proofs.debugger.Trial.forward.Goals as goal

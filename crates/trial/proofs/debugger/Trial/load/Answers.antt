@@ -1,7 +1,6 @@
-use Rattle.std.proofs.Common.{◌≡◌, ◌-◌, ◌++◌, vec_items, sym, ap, ◌∙◌, subst, arith}
+use Rattle.std.proofs.Common.{◌≡◌, ◌++◌, vec_items, sym, ap, ◌∙◌, arith}
 use Rattle.command.specs.Codes.{codes}
-use Rattle.command.specs.Plain.{load, turn}
-use Rattle.trial.specs.Kept.{Holds}
+use Rattle.command.specs.Plain.{load}
 use Rattle.trial.specs.Turns.{rows}
 use Rattle.trial.proofs.Moves.{begun}
 use Rattle.trial.proofs.Turning.{answered, turn_load, load_free}

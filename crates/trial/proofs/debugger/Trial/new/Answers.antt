@@ -1,6 +1,4 @@
-use Rattle.std.proofs.Common.{◌≡◌, ℕ, [], ◌∷◌, ◌++◌, length, get_or, vec_items, sym, refl, ap, ◌∙◌, arith}
-use Rattle.command.specs.Codes.{codes}
-use Rattle.trial.specs.Kept.{break_numbered}
+use Rattle.std.proofs.Common.{[], ◌∷◌, ◌++◌, ap, ◌∙◌}
 use Rattle.trial.proofs.Histories.{fresh_holds}
 use Rattle.trial.proofs.debugger.Trial.new.Goals as goal
 

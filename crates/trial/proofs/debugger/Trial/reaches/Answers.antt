@@ -1,4 +1,4 @@
-use Rattle.std.proofs.Common.{sym, refl, ap, ◌∙◌, arith}
+use Rattle.std.proofs.Common.{refl, arith}
 use Rattle.std.proofs.lemmas.Bool.{both_ways}
 use Rattle.trial.proofs.Moves.{goes, stuck, more}
 use Rattle.trial.proofs.debugger.Trial.reaches.Goals as goal

@@ -1,4 +1,4 @@
-use Rattle.std.proofs.Common.{◌≡◌, ◌<◌, sym, ◌∙◌, arith}
+use Rattle.std.proofs.Common.{◌<◌, sym, ◌∙◌, arith}
 use Rattle.command.specs.Plain.{moved}
 use Rattle.trial.proofs.Loops.{moved_as, back_zero, back_done, back_more, back_hit}
 use Rattle.trial.proofs.debugger.Trial.rerun.Goals as goal

@@ -1,4 +1,4 @@
-use Rattle.std.proofs.Common.{ℕ, ◌-◌, List}
+use Rattle.std.proofs.Common.{◌-◌, List}
 use Rattle.command.specs.Machine.{Instr}
 use Rattle.command.specs.Reader.{instr}
 use Rattle.command.specs.Taken.{left}

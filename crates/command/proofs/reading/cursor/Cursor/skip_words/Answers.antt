@@ -1,5 +1,5 @@
-use Rattle.std.proofs.Common.{◌≡◌, ℕ, suc, ◌+◌, ◌-◌, List, [], ◌∷◌, ◌++◌, sym, ap, ◌∙◌, subst, arith}
-use Rattle.command.specs.Reader.{got, so_many, word}
+use Rattle.std.proofs.Common.{◌≡◌, ℕ, suc, ◌+◌, ◌-◌, [], ◌∷◌, ◌++◌, subst, arith}
+use Rattle.command.specs.Reader.{word}
 use Rattle.command.specs.Taken.{left}
 use Rattle.command.proofs.Many.{Left, left_start, left_more, left_none, left_end, got_listed}
 use Rattle.command.proofs.reading.cursor.Cursor.skip_words.Goals as goal
