@@ -6,7 +6,7 @@ use Rattle.prompt.specs.declared.verbs.Verb.TheVariants.{Load, Give, Forward, Wh
 use Rattle.prompt.specs.declared.verbs.Fit.{Fit}
 use Rattle.prompt.specs.declared.verbs.Fit.TheVariants.{No, Front, Whole}
 use Rattle.prompt.specs.declared.verbs.Choice.{Choice}
-use Rattle.prompt.specs.declared.verbs.Choice.TheVariants.{No as None, One, Several, Exact}
+use Rattle.prompt.specs.declared.verbs.Choice.TheVariants.{No as NoVerb, One, Several, Exact}
 
 abbrev pub spelling : Verb → List ℕ
 spelling Load = codes "load"
@@ -32,9 +32,9 @@ fits w s = cond (is_front w s) (cond (nat_lt (length w) (length s)) Front Whole)
 -- with one command more: a word that is spelled out means that one, whatever else it is the front of
 abbrev pub joined : Choice → Verb → Fit → Choice
 joined (Exact u) v f = Exact u
-joined None v Whole = Exact v
-joined None v Front = One v
-joined None v No = None
+joined NoVerb v Whole = Exact v
+joined NoVerb v Front = One v
+joined NoVerb v No = NoVerb
 joined (One u) v Whole = Exact v
 joined (One u) v Front = Several
 joined (One u) v No = One u
