@@ -2,7 +2,7 @@
 ghost use Rattle.std.specs.Prelude.{◌≡◌};
 ghost use Rattle.std.specs.Option.{option_map};
 ghost use Rattle.command.specs.Codes.{op_number, comparison_number, code};
-ghost use Rattle.command.specs.Machine.{read as read-instr, write as write-instr, call as call-instr, take_in, put_out};
+ghost use Rattle.command.specs.Machine.{read as read_instr, write as write_instr, call as call_instr, take_in, put_out};
 ghost use Rattle.assembler.specs.Words.{separated};
 ghost use Rattle.assembler.specs.Reading.{Took, itself, left};
 ghost use Rattle.assembler.specs.Instructions.{reg_number, comparison_of, labels_of, register_named, place_named, register, next_register, next_number, next_offset, place, operation, comparison, below, mnemonic, load_operands, copy_operands, reckon_operands, word_operands, jump_if_operands, to_place, jump_operands, one_register, operands, instruction};
@@ -182,7 +182,7 @@ impl Cursor<'_> {
     }
 
     fn read(&mut self) -> Result<Instr, Expected>
-        ensures { Took code (word_operands read-instr (left self.old)) result (left self.new) }
+        ensures { Took code (word_operands read_instr (left self.old)) result (left self.new) }
     {
         let to = self.register()?;
         let base = self.next_register()?;
@@ -191,7 +191,7 @@ impl Cursor<'_> {
     }
 
     fn write(&mut self) -> Result<Instr, Expected>
-        ensures { Took code (word_operands write-instr (left self.old)) result (left self.new) }
+        ensures { Took code (word_operands write_instr (left self.old)) result (left self.new) }
     {
         let from = self.register()?;
         let base = self.next_register()?;
@@ -222,7 +222,7 @@ impl Cursor<'_> {
     }
 
     fn call(&mut self, labels: &[Label]) -> Result<Instr, Expected>
-        ensures { Took code (to_place (labels_of labels.now) call-instr (left self.old)) result (left self.new) }
+        ensures { Took code (to_place (labels_of labels.now) call_instr (left self.old)) result (left self.new) }
     {
         let place = self.place(labels)?;
         Ok(Instr::Call(place))

@@ -70,7 +70,7 @@ back_till_is w bs (suc t) (suc n) u hi lo no_hit end =
     (λ (y : suc t ≡ u + suc n). inr (omega arith)) x))
     end)))))
 
--- going back it does move, if it may; Last-stop alone would allow it to stay where a break holds
+-- going back it does move, if it may; LastStop alone would allow it to stay where a break holds
 pub back_moves : (w : Plain) (bs : List Break) (t n : ℕ) → back_till w bs (suc t) (suc n) ≤ t
 unfolding back_till
 back_moves w bs t n =

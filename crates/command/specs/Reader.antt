@@ -1,5 +1,5 @@
 -- The reader of commands: which command a text spells, if any. Assumes nothing: these are definitions.
--- A reader takes what it reads off the front of a text, and leaves the rest. A new command is one more way in `order-ways`.
+-- A reader takes what it reads off the front of a text, and leaves the rest. A new command is one more way in `order_ways`.
 use Rattle.std.specs.Prelude.{◌≡◌, ℕ, zero, suc, ◌+◌, ◌*◌, Bool, true, ltb, leb, List, [], ◌∷◌, ◌==◌, nat_le, nat_lt}
 use Rattle.command.specs.Machine.{pick, Instr, load_number, copy, reckon, read, write, jump, jump_if, call, return, take_in, put_out, halt}
 use Rattle.command.specs.Plain.{Test, Break, Command, load, give, forward, back, run, rerun, changer, add_break, drop_break, where_now, registers, words_from, outs_from, billion, spelled, fits}

@@ -6,7 +6,7 @@ use Rattle.command.specs.declared.breaks.Break.{Break as Stop}
 use Rattle.command.specs.declared.commands.Order.TheVariants.{Forward, Back, Run, Rerun, Changer, Break, Drop, Where, Registers, Words, Outs}
 use Rattle.command.proofs.Picks.{by_test}
 use Rattle.dialogue.specs.declared.showing.Showing.{Showing}
-use Rattle.dialogue.specs.declared.showing.Showing.TheVariants.{Nothing, Time, Number, Place, Registers as Sixteen, Words as Words-on, Outs as Out}
+use Rattle.dialogue.specs.declared.showing.Showing.TheVariants.{Nothing, Time, Number, Place, Registers as Sixteen, Words as WordsOn, Outs as Out}
 use Rattle.dialogue.specs.Printed.{words_on, Prints, ShownSo}
 
 words_numbers : (ws : List Word) (a n : ℕ) → words_shown ws a n ≡ flat eight (words_on ws a n)
@@ -68,7 +68,7 @@ pub registers_so : ShownSo Registers Sixteen
 unfolding turn
 registers_so w h = refl
 
-pub words_so : (a n : ℕ) → ShownSo (Words a n) (Words-on a)
+pub words_so : (a n : ℕ) → ShownSo (Words a n) (WordsOn a)
 unfolding turn
 words_so a n w h = (n, ap (λ (r : List ℕ). r ∷ []) (words_numbers (at_time w w.now).words a n))
 

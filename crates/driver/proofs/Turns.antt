@@ -40,7 +40,7 @@ pub so_far : {n n₁ : ℕ} (L : Target → Type 0) (m : List ℕ) {ev ev₁ : E
 so_far {n} {n₁} L m {ev} {ev₁} ss {steps} {steps₁} whole e q s h = subst (λ x. OnTheWay n₁ L m ev₁ ss x whole) s (subst (λ x. OnTheWay n₁ L m x ss steps whole) q (subst (λ x. OnTheWay x L m ev ss steps whole) e h))
 
 module _ (L : Target → Type 0) (m : List ℕ) (ss : List (List ℕ)) (ev : Event) (row₀ row : List ℕ) (told : Told) (m₁ : List ℕ) (L₁ : Target → Type 0) (ss₁ : List (List ℕ)) (room : ℕ)
-    (seen : List ℕ) (n steps : ℕ) (whole : Ran) (long : length m ≡ 32000) (after : m₁ ≡ (own.step m ev).memory) (told-so : ActTold (own.step m ev).act told row₀ row) where
+    (seen : List ℕ) (n steps : ℕ) (whole : Ran) (long : length m ≡ 32000) (after : m₁ ≡ (own.step m ev).memory) (told_so : ActTold (own.step m ev).act told row₀ row) where
   fair_here : (t : Target) → Counted t m → FairAct (own.step m ev).act (length t.fed) (cell m₁ fed)
   unfolding Fair
   fair_here t q =
@@ -49,7 +49,7 @@ module _ (L : Target → Type 0) (m : List ℕ) (ss : List (List ℕ)) (ev : Eve
 
   carried : (h : Heard) → Carries told row L ss h room L₁ ss₁ seen → (t : Target) → L t → Counted t m → Carried (own.step m ev).act t ss h room L₁ ss₁ seen
   unfolding Carries
-  carried h that t l q = that t l (own.step m ev).act row₀ told-so (cell m₁ fed) (fair_here t q)
+  carried h that t l q = that t l (own.step m ev).act row₀ told_so (cell m₁ fed) (fair_here t q)
 
   pub turn_on : (then : event.Event) → Carries told row L ss (Tells then) room L₁ ss₁ seen → OnTheWay (suc n) L m ev ss steps whole →
       OnTheWay n L₁ m₁ (meant then [] seen) ss₁ ((steps + steps_of then) % limit) whole

@@ -62,7 +62,7 @@ pub record Counting (m₀ : List ℕ) (slot_at : ℕ → Option ℕ) (left : Lis
 module _ (plans : Plans) (b : ℕ) (P : Ran → Type 0) (w : Plain) (t : ℕ) (running : Runs_at w t) (m₀ : List ℕ) (sized : length m₀ ≡ cells)
     (slot_at : ℕ → Option ℕ) (then : Plan) (R : Table → Type 0) (ss : List (List ℕ)) (steps : ℕ)
     (next_is : (m : List ℕ) → Alike uncounted m₀ m → plans m next ≡ kept_or (slot_at (cell m cursor)) (puts cursor (suc (cell m cursor)) ∷ []) then)
-    (after-all : (sl : List Slot) (m : List ℕ) (T : Table) → Alike uncounted m₀ m → States w sl T → R T → plans m next ≡ then →
+    (after_all : (sl : List Slot) (m : List ℕ) (T : Table) → Alike uncounted m₀ m → States w sl T → R T → plans m next ≡ then →
     Ends plans b P (world (target_of (moved w t) sl) m) next ss steps) where
   abbrev Mid : List Act → List ℕ → Event → Type 0
   Mid left m ev = Counting m₀ slot_at left m ev
@@ -104,12 +104,12 @@ module _ (plans : Plans) (b : ℕ) (P : Ran → Type 0) (w : Plain) (t : ℕ) (r
   all_told : (sl : List Slot) (m : List ℕ) (ev : Event) (T : Table) (a c : ℕ) → Mid [] m ev → States w sl T → Runs_at w a → (a ≡ t) × (c ≡ 0) × R T →
       Ends plans b P (world (target_of (moved w a) sl) m) ev ss (steps + c)
   unfolding act_at kept_or
-  all_told sl m ev T a c h s r (at-t, no_step, q) =
+  all_told sl m ev T a c h s r (at_t, no_step, q) =
       let k : steps ≡ steps + c = omega (arith, no_step) in
       subst (λ (x : ℕ). Ends plans b P (world (target_of (moved w a) sl) m) ev ss x) k
       (subst (λ (x : Event). Ends plans b P (world (target_of (moved w a) sl) m) x ss steps) (sym h.hears)
-      (subst (λ (x : ℕ). Ends plans b P (world (target_of (moved w x) sl) m) next ss steps) (sym at-t)
-      (after-all sl m T h.alike s q (ap (plans m) (sym h.hears) ∙ by_number [] m ev h None (no_slot _ (first_of [] m ev h))))))
+      (subst (λ (x : ℕ). Ends plans b P (world (target_of (moved w x) sl) m) next ss steps) (sym at_t)
+      (after_all sl m T h.alike s q (ap (plans m) (sym h.hears) ∙ by_number [] m ev h None (no_slot _ (first_of [] m ev h))))))
 
   -- from number i on, with these acts left
   pub keeps_all : (left : List Act) (i : ℕ) (T : Table) (sl : List Slot) (m : List ℕ) → i + length left < limit → Runs 0 left T t 0 (λ T' a' c'. (a' ≡ t) × (c' ≡ 0) × R T') →

@@ -43,9 +43,9 @@ module _ (plans : Plans) (agrees : Agrees plans) (left : ℕ) (w : Plain) (sl : 
       let m₂ : List ℕ = written (puts phase ending ∷ []) m₁ in
       let a₂ : Alike lasting m₁ m₂ = alike_written (puts phase ending ∷ []) m₁ refl in
       let l₂ : Lasts w sl m₂ = lasts_alike l₁ a₂ in
-      let p-is = cell_put (puts phase p ∷ []) m phase h.lasts.sized refl ∙ small in
+      let p_is = cell_put (puts phase p ∷ []) m phase h.lasts.sized refl ∙ small in
       acts {ws = puts phase ending ∷ []} {a = shows s} l₁.sized
-      (in_phase plans m₁ (saw xs) p agrees ours refl p-is ∙ ap (λ (x : ℕ). on_saw x m₁ xs) p-is ∙ q m₁ l₁)
+      (in_phase plans m₁ (saw xs) p agrees ours refl p_is ∙ ap (λ (x : ℕ). on_saw x m₁ xs) p_is ∙ q m₁ l₁)
       (ended agrees l₂.sized (cell_put (puts phase ending ∷ []) m₁ phase l₁.sized refl)
       (quiet sl s₁ s h (alike_then a₁ (alike_then a₂ (alike_written _ m₂ refl))) e))
 

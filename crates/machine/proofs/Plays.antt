@@ -31,7 +31,7 @@ goes_by w far a n r h =
     going_from w.program w.ins a n 0 (ran_till w.program w.ins far (a + n) h r) ∙ ap (λ (x : ℕ). came_to (at_time w (a + n)) x false 0) (zero-add n)
 
 -- Mem says what memory and event are when these acts are left.
-module _ (plans : Plans) (b : ℕ) (P : Ran → Type 0) (w : Plain) (far : ℕ) (ran-far : Runs_at w far) (Q : Table → ℕ → ℕ → Type 0) (ss : List (List ℕ)) (steps : ℕ)
+module _ (plans : Plans) (b : ℕ) (P : Ran → Type 0) (w : Plain) (far : ℕ) (ran_far : Runs_at w far) (Q : Table → ℕ → ℕ → Type 0) (ss : List (List ℕ)) (steps : ℕ)
     (Mem : List Act → List ℕ → Event → Type 0)
     (sized : (left : List Act) (m : List ℕ) (ev : Event) → Mem left m ev → length m ≡ cells)
     (tells : (x : Act) (left : List Act) (m : List ℕ) (ev : Event) → Mem (x ∷ left) m ev →
@@ -62,9 +62,9 @@ module _ (plans : Plans) (b : ℕ) (P : Ran → Type 0) (w : Plain) (far : ℕ) 
   plays (go n ∷ left) T a c sl m ev (near, q) h s r =
       let t = tells (go n) left m ev h in
       let m₁ : List ℕ = written t.0 m in
-      let e : going n w.program w.ins [] (at_time w a) 0 ≡ came_to (at_time w (a + n)) n false 0 = goes_by w far a n ran-far near in
+      let e : going n w.program w.ins [] (at_time w a) 0 ≡ came_to (at_time w (a + n)) n false 0 = goes_by w far a n ran_far near in
       let z : steps + (c + n) ≡ steps + c + n = omega arith in
-      let rest = plays left T (a + n) (c + n) sl m₁ (came n false 0) q t.2 s (ran_till w.program w.ins far (a + n) near ran-far) in
+      let rest = plays left T (a + n) (c + n) sl m₁ (came n false 0) q t.2 s (ran_till w.program w.ins far (a + n) near ran_far) in
       one_more left (go n) a c sl m ev
       (acts {ws = t.0} {a = goes n []} (sized (go n ∷ left) m ev h) t.1 (
         refl,

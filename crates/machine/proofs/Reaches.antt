@@ -50,7 +50,7 @@ pub reached : (plans : Plans) (agrees : Agrees plans) (P : Ran → Type 0) (b : 
     ((sl₁ : List Slot) (m₂ : List ℕ) → length m₂ ≡ cells → Makes w sl₁ u r [] m₂ → plans m₂ next ≡ set_off [] u r → Ends plans b P (world (target_of (moved w u) sl₁) m₂) next ss k) →
     Ends plans (31 + b) P (world (target_of (moved w u) sl) m) ev ss k
 unfolding come_to kept_or Runs act_at ArrivesSo planned on_next
-reached plans agrees P b w sl m ev t u a r ss k l running u-low r-low came-there past e q go_on = by_kept l.kept
+reached plans agrees P b w sl m ev t u a r ss k l running u_low r_low came_there past e q go_on = by_kept l.kept
   where
     sz : length m ≡ cells
     sz = l.sized
@@ -62,7 +62,7 @@ reached plans agrees P b w sl m ev t u a r ss k l running u-low r-low came-there
     m₁ = written (arrival_writes u r) m
 
     v : Arrived u r m m₁
-    v = arrived_so u r m sz l.gaps (omega (arith, u-low)) r-low
+    v = arrived_so u r m sz l.gaps (omega (arith, u_low)) r_low
 
     R : Table → Type 0
     R T = Ready T u (arrive_gaps (u / 4096) gs)
@@ -119,7 +119,7 @@ reached plans agrees P b w sl m ev t u a r ss k l running u-low r-low came-there
         one_more i = omega arith
 
     by_kept : Kept (moved w t) sl gs → Ends plans (31 + b) P (world (target_of (moved w u) sl) m) ev ss k
-    by_kept (inl h) = let z : u ≡ 0 = sym came-there ∙ empty_stays w t a h.0 h.1 in absurd (omega (arith, z, past))
+    by_kept (inl h) = let z : u ≡ 0 = sym came_there ∙ empty_stays w t a h.0 h.1 in absurd (omega (arith, z, past))
     by_kept (inr (T, s, h)) =
-        let x = arrives_at T t u gs l.gaps u-low e h in
-        from_first x.0 T s (arrive 0 (u / 4096) gs []) x.1 (λ j. arrives_so (u / 4096) j gs l.gaps (omega (arith, u-low))) (few_arrive (u / 4096) gs l.gaps)
+        let x = arrives_at T t u gs l.gaps u_low e h in
+        from_first x.0 T s (arrive 0 (u / 4096) gs []) x.1 (λ j. arrives_so (u / 4096) j gs l.gaps (omega (arith, u_low))) (few_arrive (u / 4096) gs l.gaps)

@@ -19,10 +19,10 @@ use Rattle.machine.proofs.Stands.{in_phase}
 use Rattle.machine.proofs.Reaches.{At, Makes, lasts_moved, reached}
 use Rattle.machine.proofs.Strides.{left_after, Strode, strode, stride_long}
 
-module _ (plans : Plans) (agrees : Agrees plans) (P : Ran → Type 0) (b : ℕ) (w : Plain) (o from-time from-steps top : ℕ) (low : top < most_time) where
+module _ (plans : Plans) (agrees : Agrees plans) (P : Ran → Type 0) (b : ℕ) (w : Plain) (o from_time from_steps top : ℕ) (low : top < most_time) where
   -- what holds at a time on the way, with so many steps left, after so many
   pub record Way (t n k : ℕ) : Type 0 where
-    pub steps : k + from-time ≡ t + from-steps
+    pub steps : k + from_time ≡ t + from_steps
     pub near : t + n ≤ top
     pub running : Runs_at w t
 
@@ -47,17 +47,17 @@ module _ (plans : Plans) (agrees : Agrees plans) (P : Ran → Type 0) (b : ℕ) 
       on_till w [] t n ≡ o → Strode w t a n c →
       Ends plans (31 + turns f) P (world (target_of (moved w (on_till w [] t a)) sl) m) (came c.by c.hit c.why) [] (k + c.by)
   unfolding planned on_came went come_to
-  landed f ih sl m t n k a c at le y one most no-pass there s =
+  landed f ih sl m t n k a c at le y one most no_pass there s =
       by_test (eqb (u % spacing) 0 && not (eqb c.by 0))
       (λ e.
       let z : u % spacing ≡ 0 = eqb-true _ _ (and_parts _ _ e).0 in
       let by_some : c.by ≡ 0 → ⊥ = eqb-false c.by 0 (not-true (eqb c.by 0) (and_parts (eqb (u % spacing) 0) _ e).1) in
       reached plans agrees P (turns f) w sl m ev t u a r [] (k + c.by) at.lasts y₁.running (omega (arith, y₁.near, low)) (omega (arith, y₁.near, low)) refl
-      (omega (arith, s.by, by_some)) (omega (arith, s.by, s.far, no-pass, z, by_some)) (q ∙ ap (λ (x : Bool). come_to x u r) e)
+      (omega (arith, s.by, by_some)) (omega (arith, s.by, s.far, no_pass, z, by_some)) (q ∙ ap (λ (x : Bool). come_to x u r) e)
       (λ sl₁ m₂ sz₂ makes₂ q₂. ih sl₁ m₂ next [] u r (k + c.by) few y₁ sz₂ makes₂ rest q₂))
       (λ e.
       let same : u / spacing ≡ t / spacing =
-      ⊎_elim (λ x. let z : u % spacing ≡ 0 → ⊥ = eqb-false _ _ x in omega (arith, s.by, s.far, no-pass, z))
+      ⊎_elim (λ x. let z : u % spacing ≡ 0 → ⊥ = eqb-false _ _ x in omega (arith, s.by, s.far, no_pass, z))
       (λ x. let z : c.by ≡ 0 = eqb-true _ _ (not-false _ x) in let i : u ≡ t = omega (arith, s.by, z) in ap (λ (x : ℕ). x / spacing) i)
       (and_cases _ _ e) in
       let kept : Kept (moved w u) sl (gaps_of m) = kept_later w t u a sl (gaps_of m) refl (omega (arith, s.by)) same at.lasts.kept in

@@ -1,9 +1,9 @@
 // How a command begins.
 ghost use Rattle.std.specs.Prelude.{◌≡◌, ◌-◌, ◌≤◌, true, length, drop};
 ghost use Rattle.command.specs.Machine.{smaller};
-ghost use Rattle.command.specs.Reader.{some, read_command, Says as Says-so};
+ghost use Rattle.command.specs.Reader.{some, read_command, Says as SaysSo};
 ghost use Rattle.command.specs.Plain.{load as loading, give as giving, fits};
-ghost use Rattle.command.specs.Told.{meant, told as told-by, program_in, numbers_in, Counts};
+ghost use Rattle.command.specs.Told.{meant, told as told_by, program_in, numbers_in, Counts};
 ghost use Rattle.machine.specs.Engine.{begin as beginning, begin_read};
 ghost use Rattle.machine.specs.Entry.{Carries};
 
@@ -22,7 +22,7 @@ const MEMORY_WORDS: u64 = 65_536;
 
 // A program: its instructions are as they stand in the text, behind the first byte and their count.
 fn load(memory: &mut [u64], count: u64, text: &[u64], out: &mut [u64]) -> Told
-    requires says { Says-so text.now (loading (program_in (drop 1 text.now))) }
+    requires says { SaysSo text.now (loading (program_in (drop 1 text.now))) }
     requires counts { count ≡ length (program_in (drop 1 text.now)) }
     requires cells { length memory.old ≡ 32000 }
     requires row { 65536 ≤ length out.old }
@@ -38,7 +38,7 @@ fn load(memory: &mut [u64], count: u64, text: &[u64], out: &mut [u64]) -> Told
 
 // Numbers that are to come in, if not too many would have.
 fn give(memory: &mut [u64], count: u64, text: &[u64], out: &mut [u64]) -> Told
-    requires says { Says-so text.now (giving (numbers_in (drop 1 text.now))) }
+    requires says { SaysSo text.now (giving (numbers_in (drop 1 text.now))) }
     requires counts { count ≡ length (numbers_in (drop 1 text.now)) }
     requires cells { length memory.old ≡ 32000 }
     requires row { 65536 ≤ length out.old }
@@ -97,11 +97,11 @@ fn obey(memory: &mut [u64], order: Order, out: &mut [u64]) -> Told
 
 // A command that was read from the text.
 fn begin(memory: &mut [u64], command: Command, text: &[u64], out: &mut [u64]) -> Told
-    requires says { Says-so text.now (told-by (drop 1 text.now) command) }
+    requires says { SaysSo text.now (told_by (drop 1 text.now) command) }
     requires counts { Counts (drop 1 text.now) command }
     requires cells { length memory.old ≡ 32000 }
     requires row { 65536 ≤ length out.old }
-    ensures { Carries (begin_read memory.old (some (told-by (drop 1 text.now) command))) memory.old result out.old memory.new out.new }
+    ensures { Carries (begin_read memory.old (some (told_by (drop 1 text.now) command))) memory.old result out.old memory.new out.new }
 {
     match command {
         Command::Load(count) => load(memory, count, text, out),

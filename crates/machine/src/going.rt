@@ -1,7 +1,7 @@
 // Going on in strides, and what is kept on the way.
 ghost use Rattle.std.specs.Prelude.{◌≡◌, ◌-◌, ◌%◌, ◌≤◌, not, ◌&&◌, [], length, ◌==◌};
 ghost use Rattle.command.specs.Machine.{pick};
-ghost use Rattle.machine.specs.Engine.{cell, written, gaps_shut, arrived, set_off, come_to, went, stride as stride-of, time, steps_left};
+ghost use Rattle.machine.specs.Engine.{cell, written, gaps_shut, arrived, set_off, come_to, went, stride as stride_of, time, steps_left};
 ghost use Rattle.machine.specs.Entry.{Carries};
 
 use crate::acts::Told;
@@ -13,7 +13,7 @@ use checkpoints::{arrival, levels_reached};
 
 // How far it goes on at once: past no multiple of the stride.
 fn stride(here: u64, left: u64) -> u64
-    ensures { result ≡ stride-of here left }
+    ensures { result ≡ stride_of here left }
 {
     left.min(STRIDE - here % STRIDE)
 }

@@ -1,7 +1,7 @@
 // What is written into the row that is lent.
 ghost use Rattle.std.specs.Prelude.{◌≡◌, ◌+◌, ◌≤◌, length, drop};
 ghost use Rattle.command.specs.Machine.{eight, flat};
-ghost use Rattle.command.specs.Reader.{Says as Says-so};
+ghost use Rattle.command.specs.Reader.{Says as SaysSo};
 ghost use Rattle.command.specs.Plain.{give};
 ghost use Rattle.command.specs.Told.{numbers_in};
 ghost use Rattle.target.specs.Run.{shows};
@@ -42,7 +42,7 @@ pub fn put_front(row: &mut [u64], numbers: &[u64])
 
 // The numbers that a text gives, each in a place of the row.
 pub fn put_given(row: &mut [u64], text: &[u64], count: u64)
-    requires says { Says-so text.now (give (numbers_in (drop 1 text.now))) }
+    requires says { SaysSo text.now (give (numbers_in (drop 1 text.now))) }
     requires counts { count ≡ length (numbers_in (drop 1 text.now)) }
     requires room { 65536 ≤ length row.old }
     ensures { row.new ≡ on_row (numbers_in (drop 1 text.now)) row.old }

@@ -195,18 +195,18 @@ went e e₁ n bs c p f q t far h came =
 module _ (e e₁ : Emulator) (k : ℕ) (lt : k < 256) (p : e₁.program ≡ e.program) (f : e₁.fed ≡ e.fed) (kq : Kept)
     (at : kq.at ≡ e.state.at) (regs : kq.regs ≡ e.state.regs) (taken : kq.taken ≡ e.state.taken) (put : kq.put ≡ e.state.put)
     (q : vec_items e₁.slots ≡ set (vec_items e.slots) k (Some kq))
-    (m-at : e₁.state.at ≡ e.state.at) (m-regs : e₁.state.regs ≡ e.state.regs) (m-taken : e₁.state.taken ≡ e.state.taken) (m-put : e₁.state.put ≡ e.state.put)
-    (m-log : e₁.state.log ≡ e.state.log) (m-items : vec_items e₁.state.words.items ≡ vec_items e.state.words.items)
+    (m_at : e₁.state.at ≡ e.state.at) (m_regs : e₁.state.regs ≡ e.state.regs) (m_taken : e₁.state.taken ≡ e.state.taken) (m_put : e₁.state.put ≡ e.state.put)
+    (m_log : e₁.state.log ≡ e.state.log) (m_items : vec_items e₁.state.words.items ≡ vec_items e.state.words.items)
     (kept : (row a : ℕ) → row < 256 → a < 65536 → held_word e₁.state.words.pages row a ≡ pick (eqb row k) (get_or (held e.state) a 0) (held_word e.state.words.pages row a)) where
   same_like : (s : Model) → Like (base_of e) e.state s → Like (base_of e₁) e₁.state s
   same_like s l =
       record {
-        place = l.place ∙ sym m-at;
-        registers = l.registers ∙ sym m-regs;
-        words = λ a. l.words a ∙ ap (λ z. get_or z a 0) (sym m-items);
-        took = l.took ∙ sym m-taken;
-        put = l.put ∙ sym m-put;
-        log = ap vec_items m-log ∙ l.log ∙ ap (λ z. laid s.out (vec_items z)) (sym m-log);
+        place = l.place ∙ sym m_at;
+        registers = l.registers ∙ sym m_regs;
+        words = λ a. l.words a ∙ ap (λ z. get_or z a 0) (sym m_items);
+        took = l.took ∙ sym m_taken;
+        put = l.put ∙ sym m_put;
+        log = ap vec_items m_log ∙ l.log ∙ ap (λ z. laid s.out (vec_items z)) (sym m_log);
         pages = refl;
         runs = l.runs;
       }
@@ -249,7 +249,7 @@ module _ (e e₁ : Emulator) (k : ℕ) (lt : k < 256) (p : e₁.program ≡ e.pr
           program = h.program ∙ ap (λ (z : VecCode). codes (vec_items z)) (sym p);
           fed = h.fed ∙ ap vec_items (sym f);
           runs = h.runs;
-          log = ap vec_items m-log ∙ h.log;
+          log = ap vec_items m_log ∙ h.log;
           state = same_like t.state h.state;
           on_run = h.on_run;
           slots = λ j lj.

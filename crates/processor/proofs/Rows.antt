@@ -35,7 +35,7 @@ module _ (ts ts₁ : List ℕ) (to from : ℕ) (ht : to ≤ 256) (hf : from ≤ 
 
 -- the last free page is taken, and a row names it
 module _ (ts fs fs₁ : List ℕ) (f k : ℕ) (hk : k < 65792) (long : length ts ≡ 65792) (took : fs ≡ fs₁ ++ f ∷ [])
-    (inside : Inside ts) (free-inside : FreeInside fs) (apart : Apart ts fs) (distinct : Distinct fs) where
+    (inside : Inside ts) (free_inside : FreeInside fs) (apart : Apart ts fs) (distinct : Distinct fs) where
   here : length fs₁ < length fs
   here = omega (arith, ap length took, length-append fs₁ (f ∷ []))
 
@@ -46,7 +46,7 @@ module _ (ts fs fs₁ : List ℕ) (f k : ℕ) (hk : k < 65792) (long : length ts
   rest_is j h = ap (λ z. get_or z j 0) took ∙ get_or_append_left fs₁ (f ∷ []) 0 j h
 
   pub took_inside : f < 73728
-  took_inside = omega (arith, free-inside (length fs₁) here, last_is)
+  took_inside = omega (arith, free_inside (length fs₁) here, last_is)
 
   pub took_apart : (i : ℕ) → i < 65792 → get_or ts i 0 ≡ f → ⊥
   took_apart i h e = apart i (length fs₁) h here (e ∙ sym last_is)
@@ -58,7 +58,7 @@ module _ (ts fs fs₁ : List ℕ) (f k : ℕ) (hk : k < 65792) (long : length ts
       (λ (t : eqb i k ≡ false). subst (λ x. x < 73728) (sym (get_or-set_other ts k i f 0 (eqb-false i k t))) (inside i h))
 
   pub free_inside_then : FreeInside fs₁
-  free_inside_then j h = subst (λ x. x < 73728) (rest_is j h) (free-inside j (omega (arith, here)))
+  free_inside_then j h = subst (λ x. x < 73728) (rest_is j h) (free_inside j (omega (arith, here)))
 
   pub apart_then : Apart (set ts k f) fs₁
   apart_then i j hi hj e =

@@ -1,7 +1,7 @@
 // A processor with its program, how far it has gone, and how much has come in.
 ghost use Rattle.std.specs.Prelude.{◌≡◌, IfOk};
 ghost use Rattle.target.specs.Acts.{TellsRegs, TellsSpot};
-ghost use Rattle.session.specs.Strides.{stride as stride-of};
+ghost use Rattle.session.specs.Strides.{stride as stride_of};
 ghost use Rattle.session.specs.Does.{Strode, Forwards, Loads, Gives, SeenWords, SeenOuts};
 
 use command::code::Instr;
@@ -54,7 +54,7 @@ impl From<AllocError> for Refusal {
 
 // How far to go at once.
 fn stride(time: u64, left: u64) -> u64
-    ensures { result ≡ stride-of time left }
+    ensures { result ≡ stride_of time left }
 {
     left.min(STRIDE - time % STRIDE)
 }
