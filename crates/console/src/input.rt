@@ -1,6 +1,9 @@
 // The lines that are typed.
+ghost use Rattle.std.specs.Prelude.{◌≡◌, IfErr};
+ghost use Rattle.std.specs.IoError.{error_kind};
+
 use std::io;
-use std::io::{BufRead, BufReader, Stdin, Write};
+use std::io::{BufRead, BufReader, ErrorKind, Stdin, Write};
 
 #[derive(Drop)]
 pub struct Input {
@@ -10,7 +13,10 @@ pub struct Input {
 }
 
 impl Input {
-    pub fn new(rt: &HostRuntime, echo: bool) -> io::Result<Input> {
+    // Where there is no memory for what is typed ahead, nothing is made.
+    pub fn new(rt: &HostRuntime, echo: bool) -> io::Result<Input>
+        ensures err { IfErr result (λ e. error_kind e ≡ ErrorKind.OutOfMemory) }
+    {
         let reader = BufReader::new(rt.alloc(), rt.stdin())?;
         Ok(Input {
             reader,

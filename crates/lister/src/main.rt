@@ -5,9 +5,9 @@ mod programs;
 #[cfg(test)]
 mod tests;
 
-use anyhow::anyhow;
 use listing::Listing;
 use programs::program_of;
+use std::process::ExitCode;
 use std::{env, io};
 
 // Whether a program is listed; where not, standard error says why.
@@ -29,10 +29,10 @@ fn run(rt: &HostRuntime) -> io::Result<bool> {
     }
 }
 
-fn main(rt: HostRuntime) -> anyhow::Result<()> {
-    match run(&rt) {
-        Ok(true) => Ok(()),
-        Ok(false) => Err(anyhow!("nothing is listed")),
-        Err(error) => Err(error.into()),
+// Where nothing is listed, standard error has said why already.
+fn main(rt: HostRuntime) -> anyhow::Result<ExitCode> {
+    match run(&rt)? {
+        true => Ok(ExitCode::SUCCESS),
+        false => Ok(ExitCode::FAILURE),
     }
 }
