@@ -15,10 +15,11 @@ import sys
 TOP = "crates"
 # Where a file would have two things of one name, one of them is imported under another first.
 BEFORE = {"driver/proofs/Serving.antt": [("Takes-up}", "Takes-up as Took}"), ("Takes-up k", "Took k")]}
-DECLARED = re.compile(r"^\s*(?:(?:pub|abbrev|unfoldable)\s+)*(?:(?:data|record|ruleset|module)\s+)?([^\s:(){}\[\],;.«»|λ]+)(?:\s|$)")
 SIGNATURE = re.compile(r"^\s*(?:(?:pub|abbrev|unfoldable)\s+)*([^\s:(){}\[\],;.«»|λ]+(?:\s+[^\s:(){}\[\],;.«»|λ]+)*)\s*:\s(.*)$")
 NAMED = re.compile(r"^\s*(?:pub\s+)?(?:data|record|ruleset)\s+([^\s:(){}\[\],;.«»|λ]+)")
 MADE = re.compile(r"\b(?:goal|need|given)\.")
+# The fields of declared records, filled by fields().
+FIELDS = set()
 NAME = re.compile(r"[^\s(){}\[\],;.:«»|λ⌜⌝`\"]+")
 
 
@@ -77,9 +78,6 @@ def respell(text, table):
         return table[name]
 
     return NAME.sub(one, text)
-
-
-FIELDS = set()
 
 
 def fields():

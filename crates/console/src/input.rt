@@ -1,6 +1,7 @@
 // The lines that are typed.
-ghost use Rattle.std.specs.Prelude.{◌≡◌, IfErr};
+ghost use Rattle.std.specs.Prelude.{◌≡◌, [], IfOk, IfErr};
 ghost use Rattle.std.specs.IoError.{error_kind};
+ghost use Rattle.console.specs.Typed.{without_newline};
 
 use std::io;
 use std::io::{BufRead, BufReader, ErrorKind, Stdin, Write};
@@ -15,6 +16,8 @@ pub struct Input {
 impl Input {
     // Where there is no memory for what is typed ahead, nothing is made.
     pub fn new(rt: &HostRuntime, echo: bool) -> io::Result<Input>
+        ensures echo { IfOk result (λ i. i.echo ≡ echo) }
+        ensures empty { IfOk result (λ i. i.line.items ≡ []) }
         ensures err { IfErr result (λ e. error_kind e ≡ ErrorKind.OutOfMemory) }
     {
         let reader = BufReader::new(rt.alloc(), rt.stdin())?;
@@ -26,7 +29,9 @@ impl Input {
     }
 
     // Asks for a line and reads it; false at the end of the input.
-    pub fn next_line(&mut self, rt: &HostRuntime) -> io::Result<bool> {
+    pub fn next_line(&mut self, rt: &HostRuntime) -> io::Result<bool>
+        ensures echo { self.new.echo ≡ self.old.echo }
+    {
         if !self.echo {
             rt.print("> ")?;
         }
@@ -44,7 +49,9 @@ impl Input {
     }
 
     // The line, without its end.
-    pub fn text(&self) -> &[u8] {
+    pub fn text(&self) -> &[u8]
+        ensures { result.now ≡ without_newline self.now.line.items }
+    {
         match self.line.as_slice() {
             [text @ .., b'\n'] => text,
             text => text,

@@ -31,8 +31,9 @@ fn run(rt: &HostRuntime) -> io::Result<bool> {
 
 // Where nothing is listed, standard error has said why already.
 fn main(rt: HostRuntime) -> anyhow::Result<ExitCode> {
-    match run(&rt)? {
-        true => Ok(ExitCode::SUCCESS),
-        false => Ok(ExitCode::FAILURE),
+    if run(&rt)? {
+        Ok(ExitCode::SUCCESS)
+    } else {
+        Ok(ExitCode::FAILURE)
     }
 }

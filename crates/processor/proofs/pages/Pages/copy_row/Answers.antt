@@ -14,7 +14,16 @@ invariant_of-self c =
     let e = take_at row (drop (length row) v.tables.items) v.tables.len (omega arith) in
     let inside : Inside row = copied_keeps ts row c.args.to c.args.from c.requires.to c.requires.from c.copy_within.ensures (λ x. x < 73728) (subst Inside (sym q) v.inside) in
     let apart : Apart row (vec_items v.free) = copied_apart ts row c.args.to c.args.from c.requires.to c.requires.from c.copy_within.ensures (vec_items v.free) (subst (λ z. Apart z (vec_items v.free)) (sym q) v.apart) in
-    record { full = v.full; rows = v.rows; marks = v.marks; room = v.room; inside = subst Inside (sym e) inside; spare = v.spare; apart = subst (λ z. Apart z (vec_items v.free)) (sym e) apart; distinct = v.distinct }
+    record {
+      full = v.full;
+      rows = v.rows;
+      marks = v.marks;
+      room = v.room;
+      inside = subst Inside (sym e) inside;
+      spare = v.spare;
+      apart = subst (λ z. Apart z (vec_items v.free)) (sym e) apart;
+      distinct = v.distinct;
+    }
 
 pub returns : goal.returns
 returns c =

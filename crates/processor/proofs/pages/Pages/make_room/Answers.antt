@@ -19,4 +19,13 @@ invariant_of-self-2 c =
     let fs = vec_items c.gather.new.free in
     let g : Gathered used 73728 fs = subst (λ z. Gathered z 73728 fs) e c.gather.ensures.gathered in
     let all : (i : ℕ) → i < 65792 → get_or used (get_or (vec_items v.tables) i 0) false ≡ true = λ i h. ap (λ z. get_or used (get_or z i 0) false) (sym c.as_slice.ensures.value) ∙ c.mark.ensures.all i h in
-    record { full = v.full; rows = v.rows; marks = v.marks; room = c.gather.ensures.room; inside = v.inside; spare = g.below; apart = gathered_apart used (vec_items v.tables) fs all g; distinct = g.distinct }
+    record {
+      full = v.full;
+      rows = v.rows;
+      marks = v.marks;
+      room = c.gather.ensures.room;
+      inside = v.inside;
+      spare = g.below;
+      apart = gathered_apart used (vec_items v.tables) fs all g;
+      distinct = g.distinct;
+    }

@@ -20,7 +20,16 @@ invariant_of-self-2 c =
     let f = c.in-Some.f in
     let k : 65536 + c.args.p < 65792 = omega arith in
     let l : length ts ≡ 65792 = omega (arith, v.rows, v.tables.ok.0) in
-    let t = c.in-Some.ensures.items in record { full = v.full; rows = v.rows; marks = v.marks; room = omega (arith, v.room, c.in-Some.ensures.capacity); inside = inside_then ts fs fs₁ f (65536 + c.args.p) k l t v.inside v.spare v.apart v.distinct; spare = free_inside_then ts fs fs₁ f (65536 + c.args.p) k l t v.inside v.spare v.apart v.distinct; apart = apart_then ts fs fs₁ f (65536 + c.args.p) k l t v.inside v.spare v.apart v.distinct; distinct = distinct_then ts fs fs₁ f (65536 + c.args.p) k l t v.inside v.spare v.apart v.distinct }
+    let t = c.in-Some.ensures.items in record {
+      full = v.full;
+      rows = v.rows;
+      marks = v.marks;
+      room = omega (arith, v.room, c.in-Some.ensures.capacity);
+      inside = inside_then ts fs fs₁ f (65536 + c.args.p) k l t v.inside v.spare v.apart v.distinct;
+      spare = free_inside_then ts fs fs₁ f (65536 + c.args.p) k l t v.inside v.spare v.apart v.distinct;
+      apart = apart_then ts fs fs₁ f (65536 + c.args.p) k l t v.inside v.spare v.apart v.distinct;
+      distinct = distinct_then ts fs fs₁ f (65536 + c.args.p) k l t v.inside v.spare v.apart v.distinct;
+    }
 
 pub returns : goal.returns
 returns c =

@@ -39,4 +39,13 @@ invariant_of-result c =
     let nt : length ts ≡ 65792 = ap length z ∙ length-replicate {A = ℕ} 65792 0 in
     let nc : length (vec_items c.in_ok-cells.cells) ≡ 18874368 = ap length cs ∙ length-replicate {A = ℕ} 18874368 0 in
     let g : Gathered used 73728 fs = subst (λ z. Gathered z 73728 fs) e c.gather.ensures.gathered in
-    let all : (i : ℕ) → i < 65792 → get_or used (get_or ts i 0) false ≡ true = λ i h. ap (λ z. get_or used (get_or z i 0) false) (sym c.as_slice.ensures.value) ∙ c.mark.ensures.all i h in record { full = omega (arith, c.in_ok-cells.cells.ok.0); rows = omega (arith, c.in_ok-tables.tables.ok.0); marks = omega (arith, v.ok.0); room = c.gather.ensures.room; inside = zeros_inside ts 65792 z; spare = g.below; apart = gathered_apart used ts fs all g; distinct = g.distinct }
+    let all : (i : ℕ) → i < 65792 → get_or used (get_or ts i 0) false ≡ true = λ i h. ap (λ z. get_or used (get_or z i 0) false) (sym c.as_slice.ensures.value) ∙ c.mark.ensures.all i h in record {
+      full = omega (arith, c.in_ok-cells.cells.ok.0);
+      rows = omega (arith, c.in_ok-tables.tables.ok.0);
+      marks = omega (arith, v.ok.0);
+      room = c.gather.ensures.room;
+      inside = zeros_inside ts 65792 z;
+      spare = g.below;
+      apart = gathered_apart used ts fs all g;
+      distinct = g.distinct;
+    }
