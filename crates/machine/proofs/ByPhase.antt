@@ -15,7 +15,7 @@ use Rattle.machine.specs.declared.acts.Told.{Told}
 use Rattle.machine.specs.declared.acts.Told.TheVariants.{Keeps, Done, No}
 use Rattle.machine.specs.declared.acts.Refusal.TheVariants.{Unexpected}
 use Rattle.machine.proofs.Rows.{three_shown}
-use Rattle.machine.proofs.Plans.{carries_at, time_kept, kept_none, kept_some}
+use Rattle.machine.proofs.Plans.{carries_at, kept_none, kept_some}
 
 -- a cell's number, or that of its phase: where a number that is no phase's is refused, that's the same
 same_phase : (n k : ℕ) → 0 < k → k < 7 → eqb (phase_number (phase_of n)) k ≡ eqb n k
@@ -79,10 +79,10 @@ module _ (m out xs : List ℕ) where
       (ap (λ x. on_saw (phase_number x) m xs) e ∙ pick_true (leb (length xs) 4096) _ _ (le-leb (length xs) 4096 h)) (ap (set m 0) ev, a)
 
   pub saw_place : (p : Phase) (r : Told) (out₁ : List ℕ) (v a b : ℕ) → p ≡ Placing → v ≡ 1 → a ≡ get_or xs 0 0 → b ≡ get_or xs 1 0 →
-      ActTold (shows (flat eight (get_or (set m 0 v) 1 0 ∷ a ∷ b ∷ []))) r out out₁ → Carries (on_saw (phase_number p) m xs) m r out (set m 0 v) out₁
+      ActTold (shows (flat eight (get_or m 1 0 ∷ a ∷ b ∷ []))) r out out₁ → Carries (on_saw (phase_number p) m xs) m r out (set m 0 v) out₁
   unfolding on_saw written cell
   saw_place p r out₁ v a b e ev ea eb h =
-      let s : flat eight (get_or (set m 0 v) 1 0 ∷ a ∷ b ∷ []) ≡ eight (get_or m 1 0) ++ eight (get_or xs 0 0) ++ eight (get_or xs 1 0) = three_shown (get_or (set m 0 v) 1 0) a b ∙ rw (time_kept m v, ea, eb) in
+      let s : flat eight (get_or m 1 0 ∷ a ∷ b ∷ []) ≡ eight (get_or m 1 0) ++ eight (get_or xs 0 0) ++ eight (get_or xs 1 0) = three_shown (get_or m 1 0) a b ∙ rw (ea, eb) in
       carries_at m r out (set m 0 v) out₁ (ap (λ x. on_saw (phase_number x) m xs) e) (ap (set m 0) ev, subst (λ bs. ActTold (shows bs) r out out₁) s h)
 
 -- the last act is done
@@ -133,7 +133,7 @@ module _ (m out : List ℕ) where
   next_keeps p r m₁ k e s h =
       carries_at m r out m₁ out (ap (λ x. on_next (phase_number x) m) e ∙ kept_some (arrival_slot (get_or m 1 0 / 4096) (get_or m 4 0)) one_more (set_off [] (get_or m 1 0) (get_or m 3 0)) k s) (kept_on k r m₁ h)
 
-  pub next_kept : (p : Phase) (r : Told) (m₁ out₁ : List ℕ) → p ≡ Keeping → None ≡ arrival_slot (get_or m 1 0 / 4096) (get_or m 4 0) → Carries (set_off [] (cell m 1) (cell m 3)) m r out m₁ out₁ →
+  pub next_kept : (p : Phase) (r : Told) (m₁ out₁ : List ℕ) → p ≡ Keeping → None ≡ arrival_slot (get_or m 1 0 / 4096) (get_or m 4 0) → Carries (set_off [] (get_or m 1 0) (get_or m 3 0)) m r out m₁ out₁ →
       Carries (on_next (phase_number p) m) m r out m₁ out₁
   unfolding on_next cell
   next_kept p r m₁ out₁ e s h =

@@ -1,5 +1,5 @@
 -- What the code does, as the plans of the definition say it.
-use Rattle.std.proofs.Common.{◌≡◌, ℕ, ◌+◌, ◌-◌, ◌/◌, ◌%◌, ◌<◌, ◌≤◌, Bool, true, false, not, ◌&&◌, eqb, ltb, List, [], ◌∷◌, length, get_or, set, Some, None, Option, sym, refl, ap, ◌∙◌, subst, arith, length-set}
+use Rattle.std.proofs.Common.{◌≡◌, ℕ, ◌+◌, ◌-◌, ◌/◌, ◌%◌, ◌<◌, ◌≤◌, Bool, true, false, not, ◌&&◌, eqb, ltb, List, [], ◌∷◌, length, get_or, set, Some, None, Option, sym, refl, ap, ◌∙◌, subst, arith}
 use Rattle.std.proofs.lemmas.Bool.{eq-eqb, ne_eqb, lt-ltb, le-ltb}
 use Rattle.checkpoints.specs.Arrivals.{arrival_slot, levels_reached}
 use Rattle.command.specs.Machine.{pick, flat, eight, Instr}
@@ -22,15 +22,9 @@ carries_at m r out m₁ out₁ e h = subst (λ x. Carries x m r out m₁ out₁)
 whole : (n : ℕ) → n < limit → n % limit ≡ n
 whole n h = omega arith
 
--- the time stays when the phase is written
-pub time_kept : (m : List ℕ) (v : ℕ) → get_or (set m 0 v) 1 0 ≡ get_or m 1 0
-time_kept [] v = refl
-time_kept (p ∷ m) v = refl
-
-pub arrives : (m out out₁ : List ℕ) (r : Told) (v : ℕ) → v ≡ 1 → ActTold (shows (flat eight (get_or (set m 0 v) 1 0 ∷ []))) r out out₁ → Carries (arrived [] (cell m 1)) m r out (set m 0 v) out₁
-unfolding arrived written cell
-arrives m out out₁ r v e h =
-    (ap (set m 0) e, subst (λ bs. ActTold (shows bs) r out out₁) (one_shown (get_or (set m 0 v) 1 0) ∙ ap eight (time_kept m v)) h)
+pub arrives : (m out out₁ : List ℕ) (r : Told) (here v : ℕ) → v ≡ 1 → ActTold (shows (flat eight (here ∷ []))) r out out₁ → Carries (arrived [] here) m r out (set m 0 v) out₁
+unfolding arrived written
+arrives m out out₁ r here v e h = (ap (set m 0) e, subst (λ bs. ActTold (shows bs) r out out₁) (one_shown here) h)
 
 -- setting off, where no steps are left and where some are
 pub none_left : (ws : List Write) (here left : ℕ) → left ≡ 0 → set_off ws here left ≡ arrived ws here
@@ -41,12 +35,10 @@ pub some_left : (ws : List Write) (here left : ℕ) → (left ≡ 0 → ⊥) →
 unfolding set_off
 some_left ws here left n = pick_false (eqb left 0) _ _ (ne_eqb left 0 n)
 
-pub sets_off : (m out out₁ : List ℕ) (v n : ℕ) → v ≡ 3 → (get_or m 3 0 ≡ 0 → ⊥) → n ≡ stride (get_or (set m 0 v) 1 0) (get_or m 3 0) → out₁ ≡ on_row (0 ∷ []) out →
-    Carries (set_off [] (cell m 1) (cell m 3)) m (Goes n) out (set m 0 v) out₁
-unfolding cell written
-sets_off m out out₁ v n e z s o =
-    carries_at m (Goes n) out (set m 0 v) out₁ (some_left [] (get_or m 1 0) (get_or m 3 0) z)
-    (ap (set m 0) e, (ap Goes (s ∙ ap (λ t. stride t (get_or m 3 0)) (time_kept m v)), o))
+pub sets_off : (m out out₁ : List ℕ) (here left v n : ℕ) → v ≡ 3 → (left ≡ 0 → ⊥) → n ≡ stride here left → out₁ ≡ on_row (0 ∷ []) out →
+    Carries (set_off [] here left) m (Goes n) out (set m 0 v) out₁
+unfolding written
+sets_off m out out₁ here left v n e z s o = carries_at m (Goes n) out (set m 0 v) out₁ (some_left [] here left z) (ap (set m 0) e, (ap Goes s, o))
 
 -- keeping into a slot, if there is one
 pub kept_none : (o : Option ℕ) (ws : List Write) (p : Plan) → None ≡ o → kept_or o ws p ≡ p
@@ -58,9 +50,8 @@ unfolding kept_or
 kept_some o ws p k e = ap (λ x. kept_or x ws p) (sym e)
 
 module _ (m out m₁ out₁ : List ℕ) (r : Told) where
-  pub sets_off_none : get_or m 3 0 ≡ 0 → Carries (arrived [] (cell m 1)) m r out m₁ out₁ → Carries (set_off [] (cell m 1) (cell m 3)) m r out m₁ out₁
-  unfolding cell
-  sets_off_none e h = carries_at m r out m₁ out₁ (none_left [] (get_or m 1 0) (get_or m 3 0) e) h
+  pub sets_off_none : (here left : ℕ) → left ≡ 0 → Carries (arrived [] here) m r out m₁ out₁ → Carries (set_off [] here left) m r out m₁ out₁
+  sets_off_none here left e h = carries_at m r out m₁ out₁ (none_left [] here left e) h
 
   -- what else is to be written may be written first, if the phase is not
   off_behind : (ws : List Write) (here left : ℕ) → ((v : ℕ) → written ws (set m 0 v) ≡ set (written ws m) 0 v) →
@@ -81,24 +72,6 @@ swap_1_3 : (m : List ℕ) (v a b : ℕ) → set (set (set m 0 v) 1 a) 3 b ≡ se
 swap_1_3 [] v a b = refl
 swap_1_3 (p ∷ m) v a b = refl
 
--- the cells that were written hold what was written
-at_3 : (m : List ℕ) (b : ℕ) → length m ≡ 32000 → get_or (set m 3 b) 3 0 ≡ b
-at_3 [] b h = absurd (omega arith)
-at_3 (p ∷ []) b h = absurd (omega arith)
-at_3 (p ∷ t ∷ []) b h = absurd (omega arith)
-at_3 (p ∷ t ∷ f ∷ []) b h = absurd (omega arith)
-at_3 (p ∷ t ∷ f ∷ l ∷ m) b h = refl
-
-time_still : (m : List ℕ) (b : ℕ) → get_or (set m 3 b) 1 0 ≡ get_or m 1 0
-time_still [] b = refl
-time_still (p ∷ []) b = refl
-time_still (p ∷ t ∷ m) b = refl
-
-at_1 : (m : List ℕ) (a : ℕ) → length m ≡ 32000 → get_or (set m 1 a) 1 0 ≡ a
-at_1 [] a h = absurd (omega arith)
-at_1 (p ∷ []) a h = absurd (omega arith)
-at_1 (p ∷ t ∷ m) a h = refl
-
 -- what is written where a state is kept, and the plan where none is
 abbrev kept_writes : ℕ → ℕ → List Write
 kept_writes here left = puts 0 4 ∷ puts 4 1 ∷ puts 1 here ∷ puts 3 left ∷ gaps_shut (levels_reached (here / 4096))
@@ -107,27 +80,19 @@ abbrev moved_on : ℕ → ℕ → Plan
 moved_on here left = set_off (puts 1 here ∷ puts 3 left ∷ []) here left
 
 module _ (m out m₁ out₁ : List ℕ) (r : Told) where
-  pub forwards : (n : ℕ) → n < limit → length m ≡ 32000 →
-      Carries (set_off [] (cell (set m 3 n) 1) (cell (set m 3 n) 3)) (set m 3 n) r out m₁ out₁ → Carries (begin_read m (some (forward n))) m r out m₁ out₁
+  pub forwards : (n : ℕ) → n < limit → Carries (set_off [] (get_or m 1 0) n) (set m 3 n) r out m₁ out₁ → Carries (begin_read m (some (forward n))) m r out m₁ out₁
   unfolding begin_read core begin written cell
-  forwards n s l h =
-      let w : written (puts 3 n ∷ []) m ≡ set m 3 n = ap (set m 3) (whole n s) in
-      let e : set_off [] (get_or m 1 0) n ≡ set_off [] (get_or (set m 3 n) 1 0) (get_or (set m 3 n) 3 0) = ap (λ t. set_off [] t n) (sym (time_still m n)) ∙ ap (set_off [] (get_or (set m 3 n) 1 0)) (sym (at_3 m n l)) in
+  forwards n s h =
       off_behind m out m₁ out₁ r (puts 3 n ∷ []) (get_or m 1 0) n (λ v. swap_3 m v (n % limit))
-      (subst (λ x. Carries (set_off [] (get_or m 1 0) n) x r out m₁ out₁) (sym w) (carries_at (set m 3 n) r out m₁ out₁ e h))
+      (subst (λ x. Carries (set_off [] (get_or m 1 0) n) x r out m₁ out₁) (sym (ap (set m 3) (whole n s))) h)
 
-  pub comes : (here left : ℕ) → here < limit → left < limit → length m ≡ 32000 →
-      Carries (set_off [] (cell (set (set m 1 here) 3 left) 1) (cell (set (set m 1 here) 3 left) 3)) (set (set m 1 here) 3 left) r out m₁ out₁ →
+  pub comes : (here left : ℕ) → here < limit → left < limit → Carries (set_off [] here left) (set (set m 1 here) 3 left) r out m₁ out₁ →
       Carries (set_off (puts 1 here ∷ puts 3 left ∷ []) here left) m r out m₁ out₁
-  unfolding written cell
-  comes here left sh sl l h =
-      let k : List ℕ = set (set m 1 here) 3 left in
+  unfolding written
+  comes here left sh sl h =
       let w : written (puts 1 here ∷ puts 3 left ∷ []) m ≡ set (set m 1 here) 3 left = ap (λ a. set (set m 1 a) 3 (left % limit)) (whole here sh) ∙ ap (set (set m 1 here) 3) (whole left sl) in
-      let t : here ≡ get_or (set (set m 1 here) 3 left) 1 0 = sym (time_still (set m 1 here) left ∙ at_1 m here l) in
-      let z : left ≡ get_or (set (set m 1 here) 3 left) 3 0 = sym (at_3 (set m 1 here) left (length-set m 1 here ∙ l)) in
-      let e : set_off [] here left ≡ set_off [] (get_or k 1 0) (get_or k 3 0) = ap (λ a. set_off [] a left) t ∙ ap (set_off [] (get_or k 1 0)) z in
       off_behind m out m₁ out₁ r (puts 1 here ∷ puts 3 left ∷ []) here left (λ v. swap_1_3 m v (here % limit) (left % limit))
-      (subst (λ x. Carries (set_off [] here left) x r out m₁ out₁) (sym w) (carries_at k r out m₁ out₁ e h))
+      (subst (λ x. Carries (set_off [] here left) x r out m₁ out₁) (sym w) h)
 
   -- where no multiple of the stride is reached, or none is kept, it sets off
   pub comes_on : (b : Bool) (here left : ℕ) → b ≡ false → Carries (set_off (puts 1 here ∷ puts 3 left ∷ []) here left) m r out m₁ out₁ → Carries (come_to b here left) m r out m₁ out₁

@@ -1,5 +1,5 @@
 -- Commands as they are read, and those that hold all that they say.
-use Rattle.std.proofs.Common.{◌≡◌, ℕ, ◌-◌, ◌≤◌, true, List, [], ◌∷◌, length, set, sym, refl, ap, ◌∙◌, arith}
+use Rattle.std.proofs.Common.{◌≡◌, ℕ, ◌-◌, ◌≤◌, true, List, [], ◌∷◌, get_or, set, sym, refl, ap, ◌∙◌, arith}
 use Rattle.std.proofs.lemmas.Bool.{leb-true}
 use Rattle.command.specs.Machine.{smaller}
 use Rattle.command.specs.Plain.{Command, fits, core, billion}
@@ -9,7 +9,7 @@ use Rattle.command.specs.declared.commands.Order.{Order}
 use Rattle.command.specs.declared.commands.Order.TheVariants.{Forward, Back, Run, Rerun, Changer, Break, Drop, Where, Registers, Words, Outs}
 use Rattle.command.proofs.Spellings.{read_back, read_forth}
 use Rattle.target.specs.Run.{refused}
-use Rattle.machine.specs.Engine.{plan, written, cell, set_off, begin, begin_read}
+use Rattle.machine.specs.Engine.{plan, written, set_off, begin, begin_read}
 use Rattle.machine.specs.Entry.{on_row, Carries}
 use Rattle.machine.specs.declared.acts.Told.{Told}
 use Rattle.machine.specs.declared.acts.Told.TheVariants.{Looks, No}
@@ -37,12 +37,12 @@ module _ (m out : List ℕ) (o : Order) where
   to : {p : Order} (r : Told) (m₁ out₁ : List ℕ) → o ≡ p → Carries (begin_read m (some (meant p))) m r out m₁ out₁ → Carries (begin_read m (some (meant o))) m r out m₁ out₁
   to r m₁ out₁ e h = carries_at m r out m₁ out₁ (ap (λ x. begin_read m (some (meant x))) e) h
 
-  pub obeys_forward : (n : ℕ) (r : Told) (m₁ out₁ : List ℕ) → o ≡ Forward n → fits (meant o) ≡ true → length m ≡ 32000 →
-      Carries (set_off [] (cell (set m 3 n) 1) (cell (set m 3 n) 3)) (set m 3 n) r out m₁ out₁ → Carries (begin_read m (some (meant o))) m r out m₁ out₁
+  pub obeys_forward : (n : ℕ) (r : Told) (m₁ out₁ : List ℕ) → o ≡ Forward n → fits (meant o) ≡ true → Carries (set_off [] (get_or m 1 0) n) (set m 3 n) r out m₁ out₁ →
+      Carries (begin_read m (some (meant o))) m r out m₁ out₁
   unfolding fits
-  obeys_forward n r m₁ out₁ e f l h =
+  obeys_forward n r m₁ out₁ e f h =
       let few : n ≤ billion = leb-true n billion (sym (ap (λ x. fits (meant x)) e) ∙ f) in
-      to r m₁ out₁ e (forwards m out m₁ out₁ r n (omega arith) l h)
+      to r m₁ out₁ e (forwards m out m₁ out₁ r n (omega arith) h)
 
   pub obeys_where : (v : ℕ) → o ≡ Where → v ≡ 5 → Carries (begin_read m (some (meant o))) m (Looks look.Place) out (set m 0 v) out
   unfolding begin_read core begin written

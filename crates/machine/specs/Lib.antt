@@ -2,6 +2,7 @@ pub mod Promise
 pub mod Engine
 pub mod Plans
 pub mod Entry
+pub mod Lent
 pub mod Phases
 pub mod Rows
 pub mod Fair

@@ -23,6 +23,6 @@ phase_of n = pick (n == 1) Ending (pick (n == 2) Beginning (pick (n == 3) GoingO
 
 abbrev pub event_meant : Event → run.Event
 event_meant (Said bs) = run.said bs.now
-event_meant (Came by hit why) = run.came by hit why
+event_meant (Came c) = run.came c.by c.hit c.why
 event_meant (Saw ns) = run.saw ns.now
 event_meant Next = run.next

@@ -7,12 +7,20 @@ ghost use Rattle.machine.specs.Phases.{event_meant};
 pub enum Event<'a> {
     // A command's bytes.
     Said(&'a [u64]),
-    // How far the processor came, whether a break holds, and why it stopped.
-    Came { by: u64, hit: bool, why: u64 },
+    Came(Came),
     // What was looked at.
     Saw(&'a [u64]),
     // The last act is done.
     Next,
+}
+
+// How far the processor came, whether a break holds, and why it stopped.
+#[derive(Clone, Copy, Debug, PartialEq, Eq)]
+pub struct Came {
+    pub by: u64,
+    pub hit: bool,
+    // Whatever number was told: any but 0 is a reason.
+    pub why: u64,
 }
 
 // The event of a kind, or none if there is no such kind.
@@ -21,11 +29,11 @@ pub fn event_from(kind: u64, a: u64, b: u64, c: u64, told: &[u64]) -> Option<Eve
 {
     match kind {
         0 => Some(Event::Said(told)),
-        1 => Some(Event::Came {
+        1 => Some(Event::Came(Came {
             by: a,
             hit: b == 1,
             why: c,
-        }),
+        })),
         2 => Some(Event::Saw(told)),
         3 => Some(Event::Next),
         _ => None,

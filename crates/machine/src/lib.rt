@@ -6,6 +6,7 @@ mod beginning;
 mod cells;
 mod event;
 mod going;
+mod lent;
 mod phase;
 mod row;
 pub mod statements;

@@ -2,7 +2,7 @@
 ghost use Rattle.std.specs.Prelude.{◌≡◌};
 ghost use Rattle.machine.specs.Phases.{phase_number, phase_of};
 
-#[derive(Clone, Copy)]
+#[derive(Clone, Copy, Debug, PartialEq, Eq)]
 pub enum Phase {
     Idle,
     // What is to be shown was, or what comes in did.
@@ -18,11 +18,11 @@ pub enum Phase {
     Telling,
 }
 
-impl Phase {
-    // The phase of that number; a number that is no phase's is as good as idle.
-    pub fn numbered(number: u64) -> Phase
-        ensures { result ≡ phase_of number }
-    {
+// A number that is no phase's is as good as idle.
+impl From<u64> for Phase {
+    ghost from_gives = { λ number phase. phase ≡ phase_of number };
+
+    fn from(number: u64) -> Phase {
         match number {
             1 => Phase::Ending,
             2 => Phase::Beginning,
@@ -33,10 +33,12 @@ impl Phase {
             _ => Phase::Idle,
         }
     }
+}
 
-    pub fn number(self) -> u64
-        ensures { result ≡ phase_number self }
-    {
-        self as u64
+impl From<Phase> for u64 {
+    ghost from_gives = { λ phase number. number ≡ phase_number phase };
+
+    fn from(phase: Phase) -> u64 {
+        phase as u64
     }
 }

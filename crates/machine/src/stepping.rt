@@ -1,15 +1,15 @@
 // One step of the debugger: what it is told, by its phase.
-ghost use Rattle.std.specs.Prelude.{◌≡◌, ◌+◌, ◌%◌, ◌≤◌, length, slice_index, slice_set};
+ghost use Rattle.std.specs.Prelude.{◌≡◌, ◌+◌, ◌%◌, length, slice_index, slice_set};
 ghost use Rattle.machine.specs.Engine.{limit, planned, on_came, on_saw, on_next};
 ghost use Rattle.machine.specs.Entry.{Carries, StepSays, step_fits};
+ghost use Rattle.machine.specs.Lent.{Does};
 ghost use Rattle.machine.specs.declared.acts.Told.TheVariants.{Done, Keeps};
 ghost use Rattle.machine.specs.Phases.{phase_number, event_meant};
 
 use crate::acts::{Refusal, Told};
-use crate::beginning::hear;
-use crate::cells::{CELLS, CURSOR, PHASE, ROW, TIME};
-use crate::event::{Event, event_from};
-use crate::going::{come, set_off};
+use crate::cells::{CELLS, CURSOR, PHASE, ROW, STEPS_LEFT, TIME};
+use crate::event::{Came, Event, event_from};
+use crate::lent::Lent;
 use crate::phase::Phase;
 use crate::row::show;
 use checkpoints::numbers::STRIDE;
@@ -18,101 +18,103 @@ use checkpoints::{arrival, beginning};
 // How many numbers are shown at most.
 const MOST_SHOWN: usize = 4_096;
 
-// The processor came so far.
-fn on_came(memory: &mut [u64], phase: Phase, by: u64, hit: bool, why: u64, out: &mut [u64]) -> Told
-    requires cells { length memory.old ≡ 32000 }
-    requires row { 65536 ≤ length out.old }
-    ensures { Carries (on_came (phase_number phase) memory.old by hit why) memory.old result out.old memory.new out.new }
-{
-    let Phase::GoingOn = phase else {
-        return Told::No(Refusal::Unexpected);
-    };
-    come(memory, by, hit, why, out)
-}
-
 // The number at a place, or 0.
 fn number_at(numbers: &[u64], place: usize) -> u64
     ensures { result ≡ slice_index numbers.now place }
 {
-    if place < numbers.len() {
-        return numbers[place];
-    }
-    0
-}
-
-// It was looked at: that is shown, if there is room for it.
-fn on_saw(memory: &mut [u64], phase: Phase, seen: &[u64], out: &mut [u64]) -> Told
-    requires cells { length memory.old ≡ 32000 }
-    requires row { 65536 ≤ length out.old }
-    ensures { Carries (on_saw (phase_number phase) memory.old seen.now) memory.old result out.old memory.new out.new }
-{
-    match phase {
-        Phase::Placing => {
-            memory[PHASE] = Phase::Ending.number();
-            show(out, &[memory[TIME], number_at(seen, 0), number_at(seen, 1)])
-        }
-        Phase::Telling => {
-            if seen.len() > MOST_SHOWN {
-                return Told::No(Refusal::Unexpected);
-            }
-            memory[PHASE] = Phase::Ending.number();
-            show(out, seen)
-        }
-        _ => Told::No(Refusal::Unexpected),
-    }
+    numbers.get(place).copied().unwrap_or(0)
 }
 
 // The command is done.
-fn finish(memory: &mut [u64]) -> Told
-    requires { length memory.old ≡ 32000 }
+fn finish(memory: &mut [u64; CELLS]) -> Told
     ensures { (memory.new ≡ slice_set memory.old 0 0) × (result ≡ Done) }
 {
-    memory[PHASE] = Phase::Idle.number();
+    memory[PHASE] = Phase::Idle.into();
     Told::Done
 }
 
 // The state is kept, and one more act of the plan is done.
-fn keep(memory: &mut [u64], slot: u64) -> Told
-    requires { length memory.old ≡ 32000 }
+fn keep(memory: &mut [u64; CELLS], slot: u64) -> Told
     ensures { (memory.new ≡ slice_set memory.old 4 ((slice_index memory.old 4 + 1) % limit)) × (result ≡ Keeps slot) }
 {
     memory[CURSOR] = memory[CURSOR].wrapping_add(1);
     Told::Keeps(slot)
 }
 
-// The last act is done: on with the plan.
-fn on_next(memory: &mut [u64], phase: Phase, out: &mut [u64]) -> Told
-    requires cells { length memory.old ≡ 32000 }
-    requires row { 65536 ≤ length out.old }
-    ensures { Carries (on_next (phase_number phase) memory.old) memory.old result out.old memory.new out.new }
-{
-    match phase {
-        Phase::Ending => finish(memory),
-        Phase::Beginning => match beginning(memory[CURSOR]) {
-            Some(slot) => keep(memory, slot),
-            None => finish(memory),
-        },
-        Phase::Keeping => match arrival(memory[TIME] / STRIDE, memory[CURSOR]) {
-            Some(slot) => keep(memory, slot),
-            None => set_off(memory, out),
-        },
-        _ => Told::No(Refusal::Unexpected),
+impl Lent<'_> {
+    // The processor came so far.
+    fn on_came(self, phase: Phase, came: Came) -> Told
+        ensures { Does (on_came (phase_number phase) self.entry.memory.now came.by came.hit came.why) self.entry result self.exit }
+    {
+        match phase {
+            Phase::GoingOn => self.come(came),
+            _ => Told::No(Refusal::Unexpected),
+        }
+    }
+
+    // It was looked at: that is shown, if there is room for it.
+    fn on_saw(self, phase: Phase, seen: &[u64]) -> Told
+        ensures { Does (on_saw (phase_number phase) self.entry.memory.now seen.now) self.entry result self.exit }
+    {
+        match phase {
+            Phase::Placing => {
+                let here = self.memory[TIME];
+                self.memory[PHASE] = Phase::Ending.into();
+                show(self.row, &[here, number_at(seen, 0), number_at(seen, 1)])
+            }
+            Phase::Telling => {
+                if seen.len() > MOST_SHOWN {
+                    return Told::No(Refusal::Unexpected);
+                }
+                self.memory[PHASE] = Phase::Ending.into();
+                show(self.row, seen)
+            }
+            _ => Told::No(Refusal::Unexpected),
+        }
+    }
+
+    // The last act is done: on with the plan.
+    fn on_next(self, phase: Phase) -> Told
+        ensures { Does (on_next (phase_number phase) self.entry.memory.now) self.entry result self.exit }
+    {
+        match phase {
+            Phase::Ending => finish(self.memory),
+            Phase::Beginning => match beginning(self.memory[CURSOR]) {
+                Some(slot) => keep(self.memory, slot),
+                None => finish(self.memory),
+            },
+            Phase::Keeping => {
+                let here = self.memory[TIME];
+                let left = self.memory[STEPS_LEFT];
+                match arrival(here / STRIDE, self.memory[CURSOR]) {
+                    Some(slot) => keep(self.memory, slot),
+                    None => self.set_off(here, left),
+                }
+            }
+            _ => Told::No(Refusal::Unexpected),
+        }
+    }
+
+    // What the debugger does next; whatever it is at, a command begins anew.
+    fn react(self, event: Event) -> Told
+        ensures { Does (planned self.entry.memory.now (event_meant event.entry)) self.entry result self.exit }
+    {
+        let phase = Phase::from(self.memory[PHASE]);
+        match event {
+            Event::Said(text) => self.hear(text),
+            Event::Came(came) => self.on_came(phase, came),
+            Event::Saw(seen) => self.on_saw(phase, seen),
+            Event::Next => self.on_next(phase),
+        }
     }
 }
 
-// What the debugger does next; whatever it is at, a command begins anew.
-fn react(memory: &mut [u64], event: Event, out: &mut [u64]) -> Told
-    requires cells { length memory.old ≡ 32000 }
-    requires row { 65536 ≤ length out.old }
-    ensures { Carries (planned memory.old (event_meant event.entry)) memory.old result out.old memory.new out.new }
+// What is lent has its lengths.
+fn answer(memory: &mut [u64; CELLS], event: Event, row: &mut [u64; ROW]) -> Told
+    ensures told { Carries (planned memory.old (event_meant event.entry)) memory.old result row.old memory.new row.new }
+    ensures wide { length row.new ≡ 65536 }
 {
-    let phase = Phase::numbered(memory[PHASE]);
-    match event {
-        Event::Said(text) => hear(memory, text, out),
-        Event::Came { by, hit, why } => on_came(memory, phase, by, hit, why, out),
-        Event::Saw(seen) => on_saw(memory, phase, seen, out),
-        Event::Next => on_next(memory, phase, out),
-    }
+    Lent { memory, row }.react(event)
 }
 
 // The event of a kind is answered, on a memory and a row of their lengths; else nothing is changed.
@@ -127,11 +129,14 @@ pub fn step(
 ) -> Told
     ensures { StepSays memory.old kind a b c told.now out.old (step_fits memory.old kind out.old) result memory.new out.new }
 {
-    if memory.len() != CELLS || out.len() < ROW {
-        return Told::No(Refusal::Unfit);
-    }
     let Some(event) = event_from(kind, a, b, c, told) else {
         return Told::No(Refusal::Unfit);
     };
-    react(memory, event, out)
+    let Some(memory) = memory.as_mut_array() else {
+        return Told::No(Refusal::Unfit);
+    };
+    let Some(row) = out.first_chunk_mut() else {
+        return Told::No(Refusal::Unfit);
+    };
+    answer(memory, event, row)
 }

@@ -1,9 +1,9 @@
-use Rattle.std.proofs.Common.{◌∙◌}
-use Rattle.machine.proofs.Writes.{gaps_turn, gaps_end}
+use Rattle.std.proofs.Common.{◌≡◌, ◌+◌, ◌-◌, replicate, arith, rules}
+use Rattle.machine.proofs.Writes.{gaps_filled}
 use Rattle.machine.proofs.going.shut_gaps.Goals as goal
 
-pub loop-level-preserved : goal.loop-level-preserved
-loop-level-preserved c = gaps_turn c.loop-level.memory c.loop-level.level c.loop-level-test.true ∙ c.loop-level.invariant
-
 pub returns : goal.returns
-returns c = gaps_end c.loop-level.memory c.loop-level.level c.loop-level-test.false ∙ c.loop-level.invariant
+returns c =
+    let k : 16 + c.args.levels - 16 ≡ c.args.levels = omega arith in
+    let z : c.fill.new.self ≡ replicate c.args.levels 0 = search rules in
+    gaps_filled c.args.memory.now c.fill.new.self c.args.levels _ (omega (arith, c.requires.few)) k z

@@ -20,17 +20,17 @@ unreachable-requires c =
     word_never t (numbers_in (drop 1 t)) c.loop-i.i _ c.requires.says (omega (arith, c.requires.counts, c.loop-i-test.true)) c.loop-i.invariant.0 c.in_default.ensures
 
 pub offset_bounds-row-i : goal.offset_bounds-row-i
-offset_bounds-row-i c = let t = c.args.text.now in let h = give_few t (numbers_in (drop 1 t)) c.requires.says in omega (arith, c.requires.counts, c.requires.room)
+offset_bounds-row-i c = let t = c.args.text.now in let h = give_few t (numbers_in (drop 1 t)) c.requires.says in omega (arith, c.requires.counts)
 
 pub bounds-row-i : goal.bounds-row-i
-bounds-row-i c = let t = c.args.text.now in let h = give_few t (numbers_in (drop 1 t)) c.requires.says in omega (arith, c.requires.counts, c.requires.room, c.loop-i-test.true, c.loop-i.auto.row)
+bounds-row-i c = let t = c.args.text.now in let h = give_few t (numbers_in (drop 1 t)) c.requires.says in omega (arith, c.requires.counts, c.loop-i-test.true)
 
 pub loop-i-preserved : goal.loop-i-preserved
 loop-i-preserved c =
     let t = c.args.text.now in
     let vs = numbers_in (drop 1 t) in
     let few = give_few t vs c.requires.says in
-    word_taken t vs c.args.row.now c.loop-i.row c.loop-i.i _ _ c.in-Some.number c.requires.says (omega (arith, c.requires.counts, c.loop-i-test.true)) (omega (arith, c.requires.room))
+    word_taken t vs c.args.row.now c.loop-i.row c.loop-i.i _ _ c.in-Some.number c.requires.says (omega (arith, c.requires.counts, c.loop-i-test.true)) (omega arith)
     c.loop-i.invariant.0 c.in-Some.ensures c.loop-i.invariant.1
 
 pub returns : goal.returns
