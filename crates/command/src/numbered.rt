@@ -30,11 +30,11 @@ impl TryFrom<u64> for Op {
     }
 }
 
-impl From<Op> for u64 {
+impl From<Op> for u8 {
     ghost from_gives = { λ op n. n ≡ op_number op };
 
-    fn from(op: Op) -> u64 {
-        op as u64
+    fn from(op: Op) -> u8 {
+        op as u8
     }
 }
 
@@ -54,10 +54,10 @@ impl TryFrom<u64> for Comparison {
     }
 }
 
-impl From<Comparison> for u64 {
+impl From<Comparison> for u8 {
     ghost from_gives = { λ comparison n. n ≡ comparison_number comparison };
 
-    fn from(comparison: Comparison) -> u64 {
-        comparison as u64
+    fn from(comparison: Comparison) -> u8 {
+        comparison as u8
     }
 }
