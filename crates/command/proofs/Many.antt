@@ -98,13 +98,7 @@ each_append f (x ∷ xs) ys = ap (λ l. f x ∷ l) (each_append f xs ys)
 pub each_set : {A B : Type 0} (f : A → B) (i : ℕ) (xs : List A) (x : A) → i < length xs → each f (take (i + 1) (set xs i x)) ≡ each f (take i xs) ++ f x ∷ []
 each_set f i xs x h = ap (each f) (take_more_set xs i x h) ∙ each_append f (take i xs) (x ∷ [])
 
--- a counted list, read part by part
-module _ {A : Type 0} (r : Reader A) (max : ℕ) (t : List ℕ) {n : ℕ} {u : List ℕ} (e : number (up_to max) t ≡ got n u) where
-  counted_listed : {v : List ℕ} → so_many r n u ≡ got (listed (so_many r n u)) v → counted max r t ≡ got (listed (counted max r t)) v
-  counted_listed h = got_listed (counted_at r max t e ∙ h)
-
-  pub counted_as : {B : Type 0} (f : List A → B) (v : List ℕ) → so_many r n u ≡ got (listed (so_many r n u)) v → as_a f (counted max r) t ≡ got (f (listed (counted max r t))) v
-  counted_as f v h = ap (λ g. bind g (λ a w. got (f a) w)) (counted_listed h)
-
-  pub counted_length : (v : List ℕ) → so_many r n u ≡ got (listed (so_many r n u)) v → n ≡ length (listed (counted max r t))
-  counted_length v h = sym (so_many_length r n u (sym (counted_at r max t e) ∙ counted_listed h))
+-- a counted list is as long as its count
+pub counted_length : {A : Type 0} (r : Reader A) (max : ℕ) (t : List ℕ) {n : ℕ} {u : List ℕ} → number (up_to max) t ≡ got n u → {xs : List A} (v : List ℕ) → so_many r n u ≡ got xs v
+    → n ≡ length (listed (counted max r t))
+counted_length r max t {n} {u} e v h = sym (so_many_length r n u (sym (counted_at r max t e) ∙ got_listed (counted_at r max t e ∙ h)))

@@ -1,7 +1,10 @@
 -- What is written behind what was written.
-use Rattle.std.proofs.Common.{◌≡◌, ℕ, suc, ◌+◌, ◌/◌, ◌%◌, ◌<◌, ◌≤◌, List, [], ◌∷◌, ◌++◌, length, get_or, take, drop, set, Ok, Err, Result, sym, refl, ap, ◌∙◌, append_assoc, append-nil, arith}
-use Rattle.std.proofs.lemmas.List.{take_more, take_all, drop-set}
+use Rattle.std.proofs.Common.{◌≡◌, ℕ, suc, ◌+◌, ◌/◌, ◌%◌, ◌<◌, List, [], ◌∷◌, ◌++◌, length, get_or, take, Ok, Err, Result, sym, refl, ap, ◌∙◌, append_assoc, append-nil}
+use native.Mathlib.Nat.{div-div-eq-div-mul}
+use Rattle.std.proofs.lemmas.List.{take_more}
+use Rattle.std.proofs.lemmas.List.FromFn.{fill_by_all}
 use Rattle.command.specs.Machine.{each, flat, in_bytes, eight}
+use Rattle.command.specs.Taken.{itself}
 use Rattle.command.specs.Written.{Puts}
 
 -- one thing and then another
@@ -37,21 +40,28 @@ flat_each w f (x ∷ xs) = ap (λ l. w (f x) ++ l) (flat_each w f xs)
 pub counted_each : {A B : Type 0} (w : B → List ℕ) (f : A → B) (xs : List A) → eight (length xs) ++ flat (λ x. w (f x)) xs ≡ eight (length (each f xs)) ++ flat w (each f xs)
 counted_each w f xs = λ i. eight (sym (each_length f xs) i) ++ flat_each w f xs i
 
-module _ {A : Type 0} (w : A → List ℕ) (xs : List A) (i : ℕ) (old : List ℕ) {mid : List ℕ} (e : mid ≡ old ++ flat w (take i xs)) where
-  -- one more of a list
-  pub list_more : (x d : A) (new : List ℕ) → i < length xs → x ≡ get_or xs i d → new ≡ mid ++ w x → new ≡ old ++ flat w (take (i + 1) xs)
-  list_more x d new h x-is n =
+-- one more of a list
+module _ (old : List ℕ) {mid : List ℕ} where
+  pub byte_more : (bs : List ℕ) (i d : ℕ) {b : ℕ} (new : List ℕ) → mid ≡ old ++ take i bs → i < length bs → b ≡ get_or bs i d → new ≡ mid ++ b ∷ [] → new ≡ old ++ take (i + 1) bs
+  byte_more bs i d {b} new e h is n =
+      n ∙ (ap (λ l. l ++ b ∷ []) e ∙ (append_assoc old (take i bs) (b ∷ []) ∙ sym (ap (λ l. old ++ l) (take_more bs i d h ∙ ap (λ y. take i bs ++ y ∷ []) (sym is)))))
+
+  pub list_more : {A : Type 0} (w : A → List ℕ) (xs : List A) (i : ℕ) (x d : A) (new : List ℕ) → mid ≡ old ++ flat w (take i xs) → i < length xs → x ≡ get_or xs i d → new ≡ mid ++ w x
+      → new ≡ old ++ flat w (take (i + 1) xs)
+  list_more w xs i x d new e h x-is n =
       let m : flat w (take (i + 1) xs) ≡ flat w (take i xs) ++ w x = ap (flat w) (take_more xs i d h ∙ ap (λ y. take i xs ++ y ∷ []) (sym x-is)) ∙ (flat_append w (take i xs) (x ∷ []) ∙ ap (λ l. flat w (take i xs) ++ l) (append-nil (w x))) in
       n ∙ (ap (λ l. l ++ w x) e ∙ (append_assoc old (flat w (take i xs)) (w x) ∙ sym (ap (λ l. old ++ l) m)))
 
-  pub list_end : length xs ≤ i → mid ≡ old ++ flat w xs
-  list_end h = e ∙ ap (λ l. old ++ flat w l) (take_all i xs h)
-
--- one more byte of a number, before those that are written
-pub byte_before : (k i : ℕ) (rest : ℕ) (bytes : List ℕ) → k ≡ suc i → i < length bytes
-    → in_bytes i (rest / 256) (drop i (set bytes i (rest % 256))) ≡ in_bytes k rest (drop k bytes)
+-- numbers in eight bytes as the library writes them
+pub eight_is : (n : ℕ)
+    → (n / 72057594037927936 % 256) ∷ (n / 281474976710656 % 256) ∷ (n / 1099511627776 % 256) ∷ (n / 4294967296 % 256) ∷ (n / 16777216 % 256) ∷ (n / 65536 % 256) ∷ (n / 256 % 256) ∷ (n % 256) ∷ [] ≡ eight n
 unfolding in_bytes
-byte_before k i rest bytes e h =
-    let z : i + 1 ≡ suc i = omega arith in
-    ap (in_bytes i (rest / 256)) (drop-set bytes i (rest % 256) h ∙ ap (λ j. rest % 256 ∷ drop j bytes) z)
-    ∙ sym (ap (λ j. in_bytes j rest (drop j bytes)) e)
+eight_is n = simp div-div-eq-div-mul
+
+-- as long, and alike at each place
+pub alike : (xs ys : List ℕ) (n : ℕ) → length xs ≡ n → length ys ≡ n → ((i : ℕ) → i < n → get_or ys i 0 ≡ get_or xs i 0) → ys ≡ xs
+alike xs ys n h k e = fill_by_all (λ i. get_or xs i 0) ys n 0 k e ∙ sym (fill_by_all (λ i. get_or xs i 0) xs n 0 h (λ i l. refl))
+
+pub each_itself : {A : Type 0} (xs : List A) → each itself xs ≡ xs
+each_itself [] = refl
+each_itself (x ∷ xs) = ap (λ l. x ∷ l) (each_itself xs)

@@ -6,7 +6,11 @@ use Rattle.command.specs.declared.code.Reg.{Reg}
 use Rattle.command.specs.declared.breaks.Subject.{Subject}
 use Rattle.command.specs.declared.reading.cursor.Cursor.{Cursor}
 
-abbrev pub left : Cursor → List ℕ
+-- what is left of a text, as numbers; and of one whose bytes are numbers
+abbrev pub left_in : {B : Type 0} → (List B → List ℕ) → Cursor B → List ℕ
+left_in text c = text c.rest.now
+
+abbrev pub left : Cursor ℕ → List ℕ
 left c = c.rest.now
 
 -- a value, by what it stands for, and the text that is left behind it; or none

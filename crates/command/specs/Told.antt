@@ -7,6 +7,7 @@ use Rattle.command.specs.Reader.{Got, nothing, got, counted, instr, word, Says}
 use Rattle.command.specs.declared.commands.Order.{Order as Ordered}
 use Rattle.command.specs.declared.commands.Order.TheVariants.{Forward, Back, Run, Rerun, Changer, Break, Drop, Where, Registers, Words, Outs}
 use Rattle.command.specs.declared.commands.Command.{Command}
+use Rattle.command.specs.declared.reading.NoCommand.{NoCommand}
 use Rattle.command.specs.declared.commands.Command.TheVariants.{Load, Give, Order}
 
 abbrev pub meant : Ordered → Asked
@@ -50,7 +51,7 @@ abbrev pub Counted : List ℕ → Option Command → Type 0
 Counted t None = Unit {0}
 Counted t (Some c) = Counts t c
 
--- a command that the text says; or 1, if it says none
-abbrev pub Reads : List ℕ → Result Command ℕ → Type 0
+-- a command that the text says; or that it says none
+abbrev pub Reads : List ℕ → Result Command NoCommand → Type 0
 Reads text (Ok c) = Says text (told (drop 1 text) c) × Counts (drop 1 text) c
-Reads text (Err e) = (e ≡ 1) × ((a : Asked) → Says text a → ⊥)
+Reads text (Err e) = (a : Asked) → Says text a → ⊥

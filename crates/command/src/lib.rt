@@ -2,8 +2,11 @@
 #![tactic(auto)]
 
 pub mod breaks;
+pub mod byte;
 pub mod code;
 pub mod commands;
+pub mod numbered;
 pub mod reading;
+mod spelled;
 pub mod statements;
 pub mod writing;

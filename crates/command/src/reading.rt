@@ -1,10 +1,14 @@
 // Commands read from what is told: one byte to a number, though any number may come.
-ghost use Rattle.std.specs.Prelude.{◌≡◌};
-ghost use Rattle.command.specs.Reader.{steps, any_number, word, instr, so_many, one_of, order_ways, command_ways};
-ghost use Rattle.command.specs.Taken.{left, Takes, itself};
+ghost use Rattle.std.specs.Prelude.{◌≡◌, length, IfSome};
+ghost use Rattle.command.specs.Reader.{steps, any_number, so_many, counted, one_of, order_ways, command_ways};
+ghost use Rattle.command.specs.Taken.{left_in, Takes, itself};
 ghost use Rattle.command.specs.Told.{listed, meant, told, Counted, Reads};
 
+use crate::byte::Byte;
+use crate::code::Instr;
 use crate::commands::{Command, Order};
+use crate::reading::parts::PLACES;
+use crate::spelled::Spelled;
 
 mod cursor;
 mod instruction;
@@ -15,212 +19,92 @@ pub use cursor::Cursor;
 
 const MOST_STEPS: u64 = 1_000_000_000;
 
-const PLACES: u64 = 65_536;
 // The longest list, also of what is asked to be shown.
 const MOST: u64 = 4_096;
-// What a text that is no command is refused with.
-const NO_COMMAND: u64 = 1;
 
-impl Cursor<'_> {
+// A text that is no command.
+#[derive(Clone, Copy, Debug, PartialEq, Eq)]
+pub struct NoCommand;
+
+impl<B: Byte> Cursor<'_, B> {
+    // Past a list: how many it has, up to the most that a list may.
+    fn list<T: Spelled>(&mut self) -> Option<u64>
+        ensures takes { Takes (λ _. listed (counted 4096 T.reader (left_in B.text self.old))) (counted 4096 T.reader (left_in B.text self.old)) result (left_in B.text self.new) }
+        ensures count { IfSome result (λ n. n ≡ length (listed (counted 4096 T.reader (left_in B.text self.old)))) }
+    {
+        let count = self.up_to(MOST)?;
+        for _ in 0..count {
+            T::take(self)?;
+        }
+        Some(count)
+    }
+
     fn steps(&mut self) -> Option<u64>
-        ensures { Takes itself (steps (left self.old)) result (left self.new) }
+        ensures { Takes itself (steps (left_in B.text self.old)) result (left_in B.text self.new) }
     {
         self.up_to(MOST_STEPS)
     }
 
     // Any number of eight bytes.
     fn any_number(&mut self) -> Option<u64>
-        ensures { Takes itself (any_number (left self.old)) result (left self.new) }
+        ensures { Takes itself (any_number (left_in B.text self.old)) result (left_in B.text self.new) }
     {
         self.number()
     }
 
-    fn forward(&mut self) -> Option<Order>
-        ensures { Takes meant (one_of order_ways 3 (left self.old)) result (left self.new) }
-    {
-        let Some(steps) = self.steps() else {
-            return None;
-        };
-        Some(Order::Forward(steps))
-    }
-
-    fn back(&mut self) -> Option<Order>
-        ensures { Takes meant (one_of order_ways 4 (left self.old)) result (left self.new) }
-    {
-        let Some(steps) = self.steps() else {
-            return None;
-        };
-        Some(Order::Back(steps))
-    }
-
-    fn run(&mut self) -> Option<Order>
-        ensures { Takes meant (one_of order_ways 5 (left self.old)) result (left self.new) }
-    {
-        let Some(steps) = self.steps() else {
-            return None;
-        };
-        Some(Order::Run(steps))
-    }
-
-    fn rerun(&mut self) -> Option<Order>
-        ensures { Takes meant (one_of order_ways 6 (left self.old)) result (left self.new) }
-    {
-        let Some(steps) = self.steps() else {
-            return None;
-        };
-        Some(Order::Rerun(steps))
-    }
-
-    fn changer(&mut self) -> Option<Order>
-        ensures { Takes meant (one_of order_ways 7 (left self.old)) result (left self.new) }
-    {
-        let Some(word) = self.below(PLACES) else {
-            return None;
-        };
-        Some(Order::Changer(word))
-    }
-
-    fn add_break(&mut self) -> Option<Order>
-        ensures { Takes meant (one_of order_ways 8 (left self.old)) result (left self.new) }
-    {
-        let Some(stop) = self.stop() else {
-            return None;
-        };
-        Some(Order::Break(stop))
-    }
-
-    fn drop_break(&mut self) -> Option<Order>
-        ensures { Takes meant (one_of order_ways 9 (left self.old)) result (left self.new) }
-    {
-        let Some(number) = self.any_number() else {
-            return None;
-        };
-        Some(Order::Drop(number))
-    }
-
-    fn words(&mut self) -> Option<Order>
-        ensures { Takes meant (one_of order_ways 12 (left self.old)) result (left self.new) }
-    {
-        let Some(from) = self.below(PLACES) else {
-            return None;
-        };
-        let Some(count) = self.up_to(MOST) else {
-            return None;
-        };
-        Some(Order::Words { from, count })
-    }
-
-    fn outs(&mut self) -> Option<Order>
-        ensures { Takes meant (one_of order_ways 13 (left self.old)) result (left self.new) }
-    {
-        let Some(from) = self.any_number() else {
-            return None;
-        };
-        let Some(count) = self.up_to(MOST) else {
-            return None;
-        };
-        Some(Order::Outs { from, count })
-    }
-
     // What follows the first byte, by that byte.
     fn order_of(&mut self, kind: u64) -> Option<Order>
-        ensures { Takes meant (one_of order_ways kind (left self.old)) result (left self.new) }
+        ensures { Takes meant (one_of order_ways kind (left_in B.text self.old)) result (left_in B.text self.new) }
     {
         match kind {
-            3 => self.forward(),
-            4 => self.back(),
-            5 => self.run(),
-            6 => self.rerun(),
-            7 => self.changer(),
-            8 => self.add_break(),
-            9 => self.drop_break(),
+            3 => Some(Order::Forward(self.steps()?)),
+            4 => Some(Order::Back(self.steps()?)),
+            5 => Some(Order::Run(self.steps()?)),
+            6 => Some(Order::Rerun(self.steps()?)),
+            7 => Some(Order::Changer(self.below(PLACES)?)),
+            8 => Some(Order::Break(self.stop()?)),
+            9 => Some(Order::Drop(self.any_number()?)),
             10 => Some(Order::Where),
             11 => Some(Order::Registers),
-            12 => self.words(),
-            13 => self.outs(),
+            12 => {
+                Some(Order::Words {
+                    from: self.below(PLACES)?,
+                    count: self.up_to(MOST)?,
+                })
+            }
+            13 => {
+                Some(Order::Outs {
+                    from: self.any_number()?,
+                    count: self.up_to(MOST)?,
+                })
+            }
             _ => None,
         }
-    }
-    // Past so many instructions.
-    fn skip_instrs(&mut self, count: u64) -> Option<()>
-        ensures { Takes (λ _. listed (so_many instr count (left self.old))) (so_many instr count (left self.old)) result (left self.new) }
-    {
-        for _i in 0..count {
-            let Some(_instr) = self.instr() else {
-                return None;
-            };
-        }
-        Some(())
-    }
-
-    // Past so many numbers that are to come in.
-    fn skip_words(&mut self, count: u64) -> Option<()>
-        ensures { Takes (λ _. listed (so_many word count (left self.old))) (so_many word count (left self.old)) result (left self.new) }
-    {
-        for _i in 0..count {
-            let Some(_word) = self.word() else {
-                return None;
-            };
-        }
-        Some(())
-    }
-
-    fn load(&mut self) -> Option<Command>
-        ensures takes { Takes (told (left self.old)) (one_of command_ways 1 (left self.old)) result (left self.new) }
-        ensures counted { Counted (left self.old) result }
-    {
-        let Some(count) = self.up_to(MOST) else {
-            return None;
-        };
-        let Some(()) = self.skip_instrs(count) else {
-            return None;
-        };
-        Some(Command::Load(count))
-    }
-
-    fn give(&mut self) -> Option<Command>
-        ensures takes { Takes (told (left self.old)) (one_of command_ways 2 (left self.old)) result (left self.new) }
-        ensures counted { Counted (left self.old) result }
-    {
-        let Some(count) = self.up_to(MOST) else {
-            return None;
-        };
-        let Some(()) = self.skip_words(count) else {
-            return None;
-        };
-        Some(Command::Give(count))
     }
 
     // What follows the first byte, by that byte.
     fn command_of(&mut self, kind: u64) -> Option<Command>
-        ensures takes { Takes (told (left self.old)) (one_of command_ways kind (left self.old)) result (left self.new) }
-        ensures counted { Counted (left self.old) result }
+        ensures takes { Takes (told (left_in B.text self.old)) (one_of command_ways kind (left_in B.text self.old)) result (left_in B.text self.new) }
+        ensures counted { Counted (left_in B.text self.old) result }
     {
         match kind {
-            1 => return self.load(),
-            2 => return self.give(),
-            _ => {}
+            1 => Some(Command::Load(self.list::<Instr>()?)),
+            2 => Some(Command::Give(self.list::<u32>()?)),
+            _ => Some(Command::Order(self.order_of(kind)?)),
         }
-        let Some(order) = self.order_of(kind) else {
-            return None;
-        };
-        Some(Command::Order(order))
     }
 }
 
-// The command that a text spells, if it fits; 1 for any other text.
-pub fn read(text: &[u64]) -> Result<Command, u64>
+// The command that a text spells, if it fits.
+pub fn read(text: &[u64]) -> Result<Command, NoCommand>
     ensures { Reads text.now result }
 {
     let mut cursor = Cursor { rest: text };
-    let Some(kind) = cursor.first() else {
-        return Err(NO_COMMAND);
-    };
-    let Some(command) = cursor.command_of(kind) else {
-        return Err(NO_COMMAND);
-    };
-    let [] = cursor.rest else {
-        return Err(NO_COMMAND);
-    };
-    Ok(command)
+    let kind = cursor.first().ok_or(NoCommand)?;
+    let command = cursor.command_of(kind).ok_or(NoCommand)?;
+    if cursor.rest.is_empty() {
+        Ok(command)
+    } else {
+        Err(NoCommand)
+    }
 }

@@ -1,5 +1,5 @@
 // What is left of a text while it is read.
 #[derive(Clone, Copy)]
-pub struct Cursor<'t> {
-    pub rest: &'t [u64],
+pub struct Cursor<'t, B = u64> {
+    pub rest: &'t [B],
 }

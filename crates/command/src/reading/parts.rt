@@ -2,151 +2,94 @@
 ghost use Rattle.std.specs.Prelude.{◌≡◌, suc, ◌<◌};
 ghost use Rattle.command.specs.Reader.{first, byte, bytes, number, below, up_to, register, place, word};
 ghost use Rattle.command.specs.Codes.{op_number, comparison_number};
-ghost use Rattle.command.specs.Taken.{left, Takes, Within, itself, reg_number};
+ghost use Rattle.command.specs.Taken.{left_in, Takes, Within, itself, reg_number};
 
+use crate::byte::Byte;
 use crate::code::{Comparison, Op, Reg};
 use crate::reading::cursor::Cursor;
 
-fn op_numbered(number: u64) -> Op
-    requires { number < 10 }
-    ensures { op_number result ≡ number }
-{
-    match number {
-        0 => Op::Sum,
-        1 => Op::Difference,
-        2 => Op::Product,
-        3 => Op::Quotient,
-        4 => Op::Remainder,
-        5 => Op::And,
-        6 => Op::Or,
-        7 => Op::Either,
-        8 => Op::Left,
-        _ => Op::Right,
-    }
-}
+pub(crate) const REGISTERS: u64 = 16;
 
-fn comparison_numbered(number: u64) -> Comparison
-    requires { number < 4 }
-    ensures { comparison_number result ≡ number }
-{
-    match number {
-        0 => Comparison::Equal,
-        1 => Comparison::Unequal,
-        2 => Comparison::Less,
-        _ => Comparison::NotLess,
-    }
-}
+pub(crate) const PLACES: u64 = 65_536;
 
-impl Cursor<'_> {
+const WORDS: u64 = 4_294_967_296;
+
+impl<B: Byte> Cursor<'_, B> {
     pub(crate) fn first(&mut self) -> Option<u64>
-        ensures { Takes itself (first (left self.old)) result (left self.new) }
+        ensures { Takes itself (first (left_in B.text self.old)) result (left_in B.text self.new) }
     {
-        let [first, rest @ ..] = self.rest else {
-            return None;
-        };
+        let (first, rest) = self.rest.split_first()?;
         self.rest = rest;
-        Some(*first)
+        Some(first.number())
     }
 
     pub(crate) fn byte(&mut self, limit: u64) -> Option<u64>
-        ensures takes { Takes itself (byte (below limit) (left self.old)) result (left self.new) }
+        ensures takes { Takes itself (byte (below limit) (left_in B.text self.old)) result (left_in B.text self.new) }
         ensures within { Within limit result }
     {
-        let Some(byte) = self.first() else {
-            return None;
-        };
-        if byte >= limit {
-            return None;
-        }
-        Some(byte)
+        let byte = self.first()?;
+        if byte < limit { Some(byte) } else { None }
     }
 
     // A number of eight bytes, the highest first.
-    pub(crate) fn number(&mut self) -> Option<u64>
-        ensures { Takes itself (bytes 8 0 (left self.old)) result (left self.new) }
+    pub fn number(&mut self) -> Option<u64>
+        ensures { Takes itself (bytes 8 0 (left_in B.text self.old)) result (left_in B.text self.new) }
     {
         let mut number = 0;
-        for _i in 0..8usize {
-            let Some(byte) = self.byte(256) else {
-                return None;
-            };
-            number = number * 256 + byte;
+        for _ in 0..8u64 {
+            number = number * 256 + self.byte(256)?;
         }
         Some(number)
     }
 
     pub(crate) fn below(&mut self, limit: u64) -> Option<u64>
-        ensures takes { Takes itself (number (below limit) (left self.old)) result (left self.new) }
+        ensures takes { Takes itself (number (below limit) (left_in B.text self.old)) result (left_in B.text self.new) }
         ensures within { Within limit result }
     {
-        let Some(number) = self.number() else {
-            return None;
-        };
-        if number >= limit {
-            return None;
-        }
-        Some(number)
+        let number = self.number()?;
+        if number < limit { Some(number) } else { None }
     }
 
     // A number up to a limit, as the count of a list is.
     pub fn up_to(&mut self, most: u64) -> Option<u64>
-        ensures takes { Takes itself (number (up_to most) (left self.old)) result (left self.new) }
+        ensures takes { Takes itself (number (up_to most) (left_in B.text self.old)) result (left_in B.text self.new) }
         ensures within { Within (suc most) result }
     {
-        let Some(number) = self.number() else {
-            return None;
-        };
-        if number > most {
-            return None;
-        }
-        Some(number)
+        let number = self.number()?;
+        if number <= most { Some(number) } else { None }
     }
 
     pub(crate) fn register(&mut self) -> Option<Reg>
-        ensures { Takes reg_number (register (left self.old)) result (left self.new) }
+        ensures { Takes reg_number (register (left_in B.text self.old)) result (left_in B.text self.new) }
     {
-        let Some(number) = self.byte(16) else {
-            return None;
-        };
+        let number = self.byte(REGISTERS)?;
         Some(Reg {
             number: number as u8,
         })
     }
 
     pub(crate) fn place(&mut self) -> Option<u16>
-        ensures { Takes itself (place (left self.old)) result (left self.new) }
+        ensures { Takes itself (place (left_in B.text self.old)) result (left_in B.text self.new) }
     {
-        let Some(place) = self.below(65536) else {
-            return None;
-        };
-        Some(place as u16)
+        Some(self.below(PLACES)? as u16)
     }
 
     // A number that is to come in.
     pub fn word(&mut self) -> Option<u32>
-        ensures { Takes itself (word (left self.old)) result (left self.new) }
+        ensures { Takes itself (word (left_in B.text self.old)) result (left_in B.text self.new) }
     {
-        let Some(word) = self.below(4294967296) else {
-            return None;
-        };
-        Some(word as u32)
+        Some(self.below(WORDS)? as u32)
     }
 
     pub(crate) fn op(&mut self) -> Option<Op>
-        ensures { Takes op_number (byte (below 10) (left self.old)) result (left self.new) }
+        ensures { Takes op_number (byte (below 10) (left_in B.text self.old)) result (left_in B.text self.new) }
     {
-        let Some(number) = self.byte(10) else {
-            return None;
-        };
-        Some(op_numbered(number))
+        Op::try_from(self.first()?).ok()
     }
 
     pub(crate) fn comparison(&mut self) -> Option<Comparison>
-        ensures { Takes comparison_number (byte (below 4) (left self.old)) result (left self.new) }
+        ensures { Takes comparison_number (byte (below 4) (left_in B.text self.old)) result (left_in B.text self.new) }
     {
-        let Some(number) = self.byte(4) else {
-            return None;
-        };
-        Some(comparison_numbered(number))
+        Comparison::try_from(self.first()?).ok()
     }
 }

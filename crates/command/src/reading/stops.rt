@@ -4,11 +4,13 @@ ghost use Rattle.std.specs.Option.{option_to_list};
 ghost use Rattle.command.specs.Machine.{each};
 ghost use Rattle.command.specs.Breaks.{test_of, break_of};
 ghost use Rattle.command.specs.Reader.{place, subject, test, so_many, counted, break};
-ghost use Rattle.command.specs.Taken.{left, Takes, subject_of};
+ghost use Rattle.command.specs.Taken.{left_in, Takes, subject_of};
 
 use crate::breaks::{Break, Subject, Test};
+use crate::byte::Byte;
 use crate::code::{Comparison, Reg};
 use crate::reading::cursor::Cursor;
+use crate::reading::parts::REGISTERS;
 
 const BLANK: Test = Test {
     subject: Subject::Word(0),
@@ -16,92 +18,58 @@ const BLANK: Test = Test {
     value: 0,
 };
 
-impl Cursor<'_> {
+impl<B: Byte> Cursor<'_, B> {
     fn subject(&mut self) -> Option<Subject>
-        ensures { Takes subject_of (subject (left self.old)) result (left self.new) }
+        ensures { Takes subject_of (subject (left_in B.text self.old)) result (left_in B.text self.new) }
     {
-        let Some(kind) = self.byte(2) else {
-            return None;
-        };
-        if kind == 0 {
-            let Some(number) = self.below(16) else {
-                return None;
-            };
+        if self.byte(2)? == 0 {
+            let number = self.below(REGISTERS)?;
             return Some(Subject::Register(Reg {
                 number: number as u8,
             }));
         }
-        let Some(word) = self.place() else {
-            return None;
-        };
-        Some(Subject::Word(word))
+        Some(Subject::Word(self.place()?))
     }
 
-    fn test(&mut self) -> Option<Test>
-        ensures { Takes test_of (test (left self.old)) result (left self.new) }
+    pub(crate) fn test(&mut self) -> Option<Test>
+        ensures { Takes test_of (test (left_in B.text self.old)) result (left_in B.text self.new) }
     {
-        let Some(subject) = self.subject() else {
-            return None;
-        };
-        let Some(comparison) = self.comparison() else {
-            return None;
-        };
-        let Some(value) = self.word() else {
-            return None;
-        };
         Some(Test {
-            subject,
-            comparison,
-            value,
+            subject: self.subject()?,
+            comparison: self.comparison()?,
+            value: self.word()?,
         })
     }
 
     // So many tests, and blank ones behind them.
     fn tests(&mut self, count: u64) -> Option<[Test; 8]>
         requires { count ≤ 8 }
-        ensures { Takes (λ ts. each test_of (take count ts)) (so_many test count (left self.old)) result (left self.new) }
+        ensures { Takes (λ ts. each test_of (take count ts)) (so_many test count (left_in B.text self.old)) result (left_in B.text self.new) }
     {
         let mut tests = [BLANK; 8];
         for i in 0..count {
-            let Some(test) = self.test() else {
-                return None;
-            };
-            tests[i as usize] = test;
+            tests[i as usize] = self.test()?;
         }
         Some(tests)
     }
 
     // A place, or that there is none.
     fn maybe_place(&mut self) -> Option<Option<u16>>
-        ensures { Takes option_to_list (counted 1 place (left self.old)) result (left self.new) }
+        ensures { Takes option_to_list (counted 1 place (left_in B.text self.old)) result (left_in B.text self.new) }
     {
-        let Some(count) = self.up_to(1) else {
-            return None;
-        };
-        if count == 0 {
+        if self.up_to(1)? == 0 {
             return Some(None);
         }
-        let Some(place) = self.place() else {
-            return None;
-        };
-        Some(Some(place))
+        Some(Some(self.place()?))
     }
 
     pub fn stop(&mut self) -> Option<Break>
-        ensures { Takes break_of (break (left self.old)) result (left self.new) }
+        ensures { Takes break_of (break (left_in B.text self.old)) result (left_in B.text self.new) }
     {
-        let Some(place) = self.maybe_place() else {
-            return None;
-        };
-        let Some(count) = self.up_to(8) else {
-            return None;
-        };
-        let Some(tests) = self.tests(count) else {
-            return None;
-        };
-        let Some(changed) = self.maybe_place() else {
-            return None;
-        };
+        let place = self.maybe_place()?;
+        let count = self.up_to(8)?;
+        let tests = self.tests(count)?;
+        let changed = self.maybe_place()?;
         Some(Break {
             place,
             tests,

@@ -1,60 +1,41 @@
 // Instructions written as bytes.
 ghost use Rattle.std.specs.Prelude.{◌≡◌};
-ghost use Rattle.command.specs.Machine.{flat};
 ghost use Rattle.command.specs.Plain.{instr_spelled};
 ghost use Rattle.command.specs.Codes.{code};
-ghost use Rattle.command.specs.Written.{Puts, instr_written};
+ghost use Rattle.command.specs.Written.{Puts};
 
+use crate::byte::Byte;
 use crate::code::Instr;
-use crate::writing::parts::{comparison_number, op_number, put, put_with};
+use crate::writing::parts::{put, put_with};
 use std::alloc::AllocError;
 
-pub(crate) fn put_instr(out: &mut Vec<u64>, instr: Instr) -> Result<(), AllocError>
-    ensures { Puts out.old.items (instr_spelled (code instr)) result out.new.items }
+pub(crate) fn put_instr<B: Byte>(out: &mut Vec<B>, instr: Instr) -> Result<(), AllocError>
+    ensures { Puts (B.text out.old.items) (instr_spelled (code instr)) result (B.text out.new.items) }
 {
     match instr {
-        Instr::Load(to, number) => put_with(out, &[0, to.number as u64], number as u64),
-        Instr::Copied(to, from) => put(out, &[1, to.number as u64, from.number as u64]),
-        Instr::Reckon(op, to, by) => put(
-            out,
-            &[2, op_number(op), to.number as u64, by.number as u64],
-        ),
+        Instr::Load(to, number) => put_with(out, &[0, to.number], u64::from(number)),
+        Instr::Copied(to, from) => put(out, &[1, to.number, from.number]),
+        Instr::Reckon(op, to, by) => put(out, &[2, u8::from(op), to.number, by.number]),
         Instr::Read(to, base, offset) => put_with(
             out,
-            &[3, to.number as u64, base.number as u64],
-            offset as u64,
+            &[3, to.number, base.number],
+            u64::from(offset),
         ),
         Instr::Write(from, base, offset) => put_with(
             out,
-            &[4, from.number as u64, base.number as u64],
-            offset as u64,
+            &[4, from.number, base.number],
+            u64::from(offset),
         ),
-        Instr::Jump(place) => put_with(out, &[5], place as u64),
+        Instr::Jump(place) => put_with(out, &[5], u64::from(place)),
         Instr::JumpIf(comparison, first, second, place) => put_with(
             out,
-            &[
-                6,
-                comparison_number(comparison),
-                first.number as u64,
-                second.number as u64,
-            ],
-            place as u64,
+            &[6, u8::from(comparison), first.number, second.number],
+            u64::from(place),
         ),
-        Instr::Call(place) => put_with(out, &[7], place as u64),
+        Instr::Call(place) => put_with(out, &[7], u64::from(place)),
         Instr::Return => put(out, &[8]),
-        Instr::In(to) => put(out, &[9, to.number as u64]),
-        Instr::Out(from) => put(out, &[10, from.number as u64]),
+        Instr::In(to) => put(out, &[9, to.number]),
+        Instr::Out(from) => put(out, &[10, from.number]),
         Instr::Halt => put(out, &[11]),
     }
-}
-
-pub(crate) fn put_instrs(out: &mut Vec<u64>, program: &[Instr]) -> Result<(), AllocError>
-    ensures { Puts out.old.items (flat instr_written program.now) result out.new.items }
-{
-    for instr in program {
-        let Ok(()) = put_instr(out, *instr) else {
-            return Err(AllocError);
-        };
-    }
-    Ok(())
 }

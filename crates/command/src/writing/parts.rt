@@ -1,56 +1,41 @@
-// The parts of a command, each written behind what was written: bytes, numbers, registers.
+// The parts of a command, each written behind what was written: bytes, numbers.
 ghost use Rattle.std.specs.Prelude.{◌≡◌, ◌++◌};
 ghost use Rattle.command.specs.Machine.{eight};
-ghost use Rattle.command.specs.Codes.{op_number, comparison_number};
 ghost use Rattle.command.specs.Written.{Puts};
 
-use crate::code::{Comparison, Op};
+use crate::byte::Byte;
 use std::alloc::AllocError;
 
 // The bytes of a number, the highest first.
 pub fn eight_bytes(number: u64) -> [u64; 8]
     ensures { result ≡ eight number }
 {
-    let mut bytes = [0; 8];
-    let mut rest = number;
-    for i in (0..8usize).rev() {
-        bytes[i] = rest % 256;
-        rest = rest / 256;
+    number.to_be_bytes().map(u64::from)
+}
+
+pub(crate) fn put<B: Byte>(out: &mut Vec<B>, bytes: &[u8]) -> Result<(), AllocError>
+    ensures { Puts (B.text out.old.items) bytes.now result (B.text out.new.items) }
+{
+    for byte in bytes {
+        out.push(B::of(*byte))?;
     }
-    bytes
+    Ok(())
 }
 
-pub(crate) fn op_number(op: Op) -> u64
-    ensures { result ≡ op_number op }
+pub(crate) fn put_number<B: Byte>(out: &mut Vec<B>, number: u64) -> Result<(), AllocError>
+    ensures { Puts (B.text out.old.items) (eight number) result (B.text out.new.items) }
 {
-    op as u64
-}
-
-pub(crate) fn comparison_number(comparison: Comparison) -> u64
-    ensures { result ≡ comparison_number comparison }
-{
-    comparison as u64
-}
-
-pub(crate) fn put(out: &mut Vec<u64>, bytes: &[u64]) -> Result<(), AllocError>
-    ensures { Puts out.old.items bytes.now result out.new.items }
-{
-    out.extend_from_slice(bytes)
-}
-
-pub(crate) fn put_number(out: &mut Vec<u64>, number: u64) -> Result<(), AllocError>
-    ensures { Puts out.old.items (eight number) result out.new.items }
-{
-    let bytes = eight_bytes(number);
-    put(out, &bytes)
+    put(out, &number.to_be_bytes())
 }
 
 // Some bytes, and a number behind them.
-pub(crate) fn put_with(out: &mut Vec<u64>, bytes: &[u64], number: u64) -> Result<(), AllocError>
-    ensures { Puts out.old.items (bytes.now ++ eight number) result out.new.items }
+pub(crate) fn put_with<B: Byte>(
+    out: &mut Vec<B>,
+    bytes: &[u8],
+    number: u64,
+) -> Result<(), AllocError>
+    ensures { Puts (B.text out.old.items) (bytes.now ++ eight number) result (B.text out.new.items) }
 {
-    let Ok(()) = put(out, bytes) else {
-        return Err(AllocError);
-    };
+    put(out, bytes)?;
     put_number(out, number)
 }

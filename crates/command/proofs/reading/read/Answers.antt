@@ -1,29 +1,46 @@
-use Rattle.std.proofs.Common.{ℕ, List, refl, ◌∙◌, subst, arith}
-use Rattle.std.proofs.lemmas.Bool.{ltb-true, ltb-false}
-use Rattle.command.specs.Reader.{Says}
-use Rattle.command.specs.Told.{told, Counts}
-use Rattle.command.specs.Taken.{left}
-use Rattle.command.proofs.Whole.{command_none, command_at, command_is, rest_is, refused_none, refused_left, accepted}
+use Rattle.std.proofs.Common.{ℕ, List, Option, length, sym, ◌∙◌, subst, eqb-true, arith}
+use borrow.Author.Tests.{eqb-false}
+use Rattle.command.specs.Reader.{first, one_of, command_ways, Says}
+use Rattle.command.specs.Told.{told, Counts, Counted}
+use Rattle.command.specs.Taken.{left, itself}
+use Rattle.command.specs.declared.commands.Command.{Command}
+use Rattle.command.proofs.Texts.{took, took_none}
+use Rattle.command.proofs.Whole.{command_none, command_at, command_is, rest_is, refused_none, refused_left, refused, accepted}
 use Rattle.command.proofs.reading.read.Goals as goal
 
-pub returns-in_default : goal.returns-in_default
-returns-in_default c = let t = c.args.text.now in (refl, refused_none t (command_none t c.in_default.ensures))
-
-pub returns-in_default-command_of : goal.returns-in_default-command_of
-returns-in_default-command_of c =
-    let t = c.args.text.now in (refl, refused_none t (command_at t c.in-Some.ensures ∙ c.in_default-command_of.ensures.takes))
-
-pub returns-in_default-rest : goal.returns-in_default-rest
-returns-in_default-rest c =
+pub returns-in_err-kind : goal.returns-in_err-kind
+returns-in_err-kind c =
     let t = c.args.text.now in
-    let u = left c.command_of.new.self in
-    let x = told (left c.first.new.self) c.in-Some-command_of.command in
-    (refl, refused_left t u (command_is t x u c.in-Some.ensures c.in-Some-command_of.ensures.takes) (omega (arith, ltb-true, ltb-false)))
+    refused t _ c.from_residual.result c.from_residual.ensures.1
+    (refused_none t (command_none t (took_none itself (first t) (left c.first.new.self) c.in_err-kind.ensures.ok_part c.first.ensures)))
 
-pub returns : goal.returns
-returns c =
+pub returns-in_err-command : goal.returns-in_err-command
+returns-in_err-command c =
     let t = c.args.text.now in
-    let x = c.in-Some-command_of.command in
+    let u = left c.first.new.self in
+    refused t _ c.from_residual-in_err-command.result c.from_residual-in_err-command.ensures.1
+    (refused_none t
+    (command_at t (took itself (first t) u c.in_ok-kind.ensures.ok_part c.first.ensures)
+    ∙ took_none (told u) (one_of command_ways c.in_ok-kind.kind u) (left c.command_of.new.self) c.in_err-command.ensures.ok_part c.command_of.ensures.takes))
+
+pub returns-then-is_empty : goal.returns-then-is_empty
+returns-then-is_empty c =
+    let t = c.args.text.now in
+    let u = left c.first.new.self in
     let v = left c.command_of.new.self in
-    let says = accepted t v (command_is t (told (left c.first.new.self) x) v c.in-Some.ensures c.in-Some-command_of.ensures.takes) (omega (arith, ltb-true, ltb-false)) in
-    subst (λ (u : List ℕ). Says t (told u x) × Counts u x) (rest_is t c.in-Some.ensures) (says, c.in-Some-command_of.ensures.counted)
+    let x = c.in_ok-command.command in
+    let e = took itself (first t) u c.in_ok-kind.ensures.ok_part c.first.ensures in
+    let h = took (told u) (one_of command_ways c.in_ok-kind.kind u) v c.in_ok-command.ensures.ok_part c.command_of.ensures.takes in
+    let z = eqb-true (length v) 0 (sym c.if-is_empty.ensures) in
+    subst (λ (u : List ℕ). Says t (told u x) × Counts u x) (rest_is t e) (accepted t v (command_is t (told u x) v e h) (omega arith), subst (λ (r : Option Command). Counted u r) c.in_ok-command.ensures.ok_part c.command_of.ensures.counted)
+
+pub returns-else-is_empty : goal.returns-else-is_empty
+returns-else-is_empty c =
+    let t = c.args.text.now in
+    let u = left c.first.new.self in
+    let v = left c.command_of.new.self in
+    let x = c.in_ok-command.command in
+    let e = took itself (first t) u c.in_ok-kind.ensures.ok_part c.first.ensures in
+    let h = took (told u) (one_of command_ways c.in_ok-kind.kind u) v c.in_ok-command.ensures.ok_part c.command_of.ensures.takes in
+    let z = eqb-false (length v) 0 (sym c.if-is_empty.ensures) in
+    refused_left t v (command_is t (told u x) v e h) (omega arith)

@@ -44,9 +44,9 @@ pub returns-in-Outs : goal.returns-in-Outs
 unfolding spelled
 returns-in-Outs c = search rules
 
-pub returns-in-Ok : goal.returns-in-Ok
+pub returns-in_ok-put-in-Break : goal.returns-in_ok-put-in-Break
 unfolding spelled
-returns-in-Ok c =
+returns-in_ok-put-in-Break c =
     rw c.in-Break.is
-    (puts_then c.put_break.result (vec_items c.args.out.now) (8 ∷ []) (break_spelled (break_of c.in-Break.stop)) (vec_items c.put.new.out) (vec_items c.put_break.new.out) c.in-Ok.ensures
-    c.put_break.ensures)
+    (puts_then c.put_break.result (vec_items c.args.out.now) (8 ∷ []) (break_spelled (break_of c.in-Break.stop)) (vec_items c.put.new.out) (vec_items c.put_break.new.out)
+    c.in_ok-put-in-Break.ensures c.put_break.ensures)

@@ -1,8 +1,8 @@
 use Rattle.std.proofs.Common.{◌≡◌, ℕ, suc, ◌+◌, ◌-◌, ◌*◌, ◌^◌, ◌<◌, ◌≤◌, sym, ap, ◌∙◌, pow-suc, add-one, arith}
 use native.Mathlib.Nat.{pow-le-pow_right}
 use Rattle.command.specs.Reader.{bytes}
-use Rattle.command.specs.Taken.{left}
-use Rattle.command.proofs.Texts.{bytes_none, bytes_more, bytes_done}
+use Rattle.command.specs.Taken.{left_in, itself}
+use Rattle.command.proofs.Texts.{takes_none, bytes_none, bytes_more, bytes_done}
 use Rattle.command.proofs.reading.cursor.Cursor.number.Goals as goal
 
 -- one byte more keeps it below the next power
@@ -14,25 +14,28 @@ fits_eight i n b l h k =
     let p : 256 ^ (i + 1) ≤ 256 ^ 8 = pow-le-pow_right {n = 256} (omega arith) {i = i + 1} {j = 8} (omega arith) in
     omega (arith, next_power i n b h k)
 
-pub returns-in_default : goal.returns-in_default
-returns-in_default c =
-    let e : 8 - c.loop-i._i ≡ suc (7 - c.loop-i._i) = omega arith in
-    (sym c.loop-i.invariant.0 ∙ (ap (λ k. bytes k c.loop-i.number (left c.loop-i.self)) e ∙ bytes_none _ _ (left c.loop-i.self) c.in_default.ensures.takes))
+pub returns-in_err-number : goal.returns-in_err-number
+returns-in_err-number g c =
+    let text = g.B.Byte.text in
+    let e : 8 - c.loop.counter ≡ suc (7 - c.loop.counter) = omega arith in
+    takes_none itself (bytes 8 0 (left_in text c.args.self.now)) c.from_residual.result (left_in text c.byte.new.self) c.from_residual.ensures
+    (sym c.loop.invariant.0 ∙ (ap (λ k. bytes k c.loop.number (left_in text c.loop.self)) e ∙ bytes_none _ _ (left_in text c.loop.self) c.in_err-number.ensures.takes))
 
 pub overflow_mul-number : goal.overflow_mul-number
-overflow_mul-number c = let h = fits_eight c.loop-i._i c.loop-i.number 0 c.loop-i-test.true c.loop-i.invariant.1 (omega arith) in omega arith
+overflow_mul-number g c = let h = fits_eight c.loop.counter c.loop.number 0 c.loop-test.true c.loop.invariant.1 (omega arith) in omega arith
 
 pub overflow_add-number : goal.overflow_add-number
-overflow_add-number c =
-    let h = fits_eight c.loop-i._i c.loop-i.number c.in-Some.byte c.loop-i-test.true c.loop-i.invariant.1 c.in-Some.ensures.within in
+overflow_add-number g c =
+    let h = fits_eight c.loop.counter c.loop.number c.in_ok-number.field-0 c.loop-test.true c.loop.invariant.1 c.in_ok-number.ensures.within in
     omega arith
 
-pub loop-i-preserved : goal.loop-i-preserved
-loop-i-preserved c =
-    let e : 8 - c.loop-i._i ≡ suc (8 - (c.loop-i._i + 1)) = omega arith in (
-      sym (bytes_more _ _ (left c.loop-i.self) c.in-Some.ensures.takes) ∙ (ap (λ k. bytes k c.loop-i.number (left c.loop-i.self)) (sym e) ∙ c.loop-i.invariant.0),
-      next_power _ _ _ c.loop-i.invariant.1 c.in-Some.ensures.within,
+pub loop-preserved : goal.loop-preserved
+loop-preserved g c =
+    let text = g.B.Byte.text in
+    let e : 8 - c.loop.counter ≡ suc (8 - (c.loop.counter + 1)) = omega arith in (
+      sym (bytes_more _ _ (left_in text c.loop.self) c.in_ok-number.ensures.takes) ∙ (ap (λ k. bytes k c.loop.number (left_in text c.loop.self)) (sym e) ∙ c.loop.invariant.0),
+      next_power _ _ _ c.loop.invariant.1 c.in_ok-number.ensures.within,
     )
 
 pub returns : goal.returns
-returns c = sym c.loop-i.invariant.0 ∙ bytes_done _ _ _ (omega arith)
+returns g c = sym c.loop.invariant.0 ∙ bytes_done _ _ _ (omega arith)

@@ -2,22 +2,22 @@ use Rattle.std.proofs.Common.{rules}
 use Rattle.command.specs.Reader.{break}
 use Rattle.command.proofs.reading.cursor.Cursor.stop.Goals as goal
 
-pub returns-in_default : goal.returns-in_default
+pub returns-in_err-place : goal.returns-in_err-place
 unfolding break
-returns-in_default c = search rules
+returns-in_err-place g c = search rules
 
-pub returns-in_default-up_to : goal.returns-in_default-up_to
+pub returns-in_err-count : goal.returns-in_err-count
 unfolding break
-returns-in_default-up_to c = search rules
+returns-in_err-count g c = search rules
 
-pub returns-in_default-tests : goal.returns-in_default-tests
+pub returns-in_err-tests : goal.returns-in_err-tests
 unfolding break
-returns-in_default-tests c = search rules
+returns-in_err-tests g c = search rules
 
-pub returns-in_default-maybe_place : goal.returns-in_default-maybe_place
+pub returns-in_err-changed : goal.returns-in_err-changed
 unfolding break
-returns-in_default-maybe_place c = search rules
+returns-in_err-changed g c = search rules
 
 pub returns : goal.returns
 unfolding break
-returns c = search rules
+returns g c = search rules
