@@ -1,66 +1,40 @@
-use Rattle.std.proofs.Common.{◌≡◌, suc, ◌+◌, ◌-◌, ◌*◌, ◌/◌, ◌%◌, ◌≤◌, get_or, drop, refl, ap, ◌∙◌, mul-le-mul_right, pow-suc, add-one, arith}
-use Rattle.std.proofs.lemmas.List.{drop_all}
-use Rattle.checkpoints.specs.Policy.{last_kept, last_from, slot}
-use Rattle.checkpoints.proofs.LevelUp.{in_block, below_point, below_next, level_up, spacing_small, turn, both}
+use Rattle.std.proofs.Common.{◌≡◌, ℕ, suc, ◌+◌, ◌*◌, ◌/◌, drop, refl, sym, ap, ◌∙◌, arith}
+use Rattle.std.proofs.Math.Nat.{div-div-eq-div-mul}
+use Rattle.checkpoints.specs.Policy.{Kept, last_kept, last_from}
+use Rattle.checkpoints.proofs.LevelUp.{turn, at_top, last_few}
 use Rattle.checkpoints.proofs.kept.last_kept.Goals as goal
 
-pub loop-v-init : goal.loop-v-init
+pub loop-gap-init : goal.loop-gap-init
 unfolding last_kept
-loop-v-init c = (refl, omega arith, refl, omega arith, omega arith, omega arith)
+loop-gap-init c = (refl, refl, refl)
 
-pub returns-then-back-eq0 : goal.returns-then-back-eq0
-returns-then-back-eq0 c =
-    let l = c.loop-v in
-    let e = turn l.v l.g c.args.gaps.now l.n l.k _ _ (omega arith) l.invariant.0 (in_block _ _ _ _ _ _ (omega arith)) in
-    let r = both c.args.gaps.now c.args.t c.args.y _ _ _ _ c.requires e c.slot_of.ensures refl in
-    record { slot = r.0; time = r.1; few = r.2 }
+pub returns-in-Some-clause-few : goal.returns-in-Some-clause-few
+returns-in-Some-clause-few c h =
+    let l = c.loop-gap in
+    let gaps = c.args.gaps.now in
+    let e = turn l.level.0 l.level.1.0 l.gap-index gaps _ _ _ _ c.loop-gap-test.true l.invariant.2 (c.in-Some.ensures (drop (suc l.gap-index) gaps)) in
+    omega (arith, ap (λ (k : Kept). k.slot_is) e, last_few gaps c.args.t c.args.y c.requires h)
 
-pub returns-then-k-left : goal.returns-then-k-left
-returns-then-k-left c =
-    let l = c.loop-v in
-    let e = turn l.v l.g c.args.gaps.now l.n l.k _ _ (omega arith) l.invariant.0 (below_point _ _ _ _ _ _ (omega arith) (omega arith)) in
-    let r = both c.args.gaps.now c.args.t c.args.y _ _ _ _ c.requires e c.slot_of-then-k-left.ensures refl in
-    record { slot = r.0; time = r.1; few = r.2 }
-
--- the point is at or before t
-pub overflow_mul-point-then-back-eq1 : goal.overflow_mul-point-then-back-eq1
-overflow_mul-point-then-back-eq1 c =
-    let l = c.loop-v in
-    let p : 8 * (l.k / 8) + (7 - l.n % 8 + 1) ≤ l.n = omega arith in
-    omega (arith, mul-le-mul_right l.g p)
-
-pub returns-then-back-eq1 : goal.returns-then-back-eq1
-returns-then-back-eq1 c =
-    let l = c.loop-v in
-    let i : 7 - l.n % 8 + 1 ≡ suc (7 - l.n % 8) = omega arith in
-    let e = turn l.v l.g c.args.gaps.now l.n l.k _ _ (omega arith) l.invariant.0 (below_next _ _ _ _ _ _ (omega arith) c.if-k-left.false) in
-    let r = both c.args.gaps.now c.args.t c.args.y _ _ _ _ c.requires e (c.slot_of-then-back-eq1.ensures ∙ ap (slot l.v (l.k / 8)) i)
-    (c.saturating_sub.ensures ∙ ap (λ z. (8 * (l.k / 8) + z) * l.g - get_or c.args.gaps.now l.v 0) i) in
-    record { slot = r.0; time = r.1; few = r.2 }
-
-pub overflow_mul-g : goal.overflow_mul-g
-overflow_mul-g c = let s = spacing_small c.loop-v.g c.loop-v.v (omega arith) c.loop-v.invariant.2 in omega arith
-
-pub loop-v-preserved : goal.loop-v-preserved
-loop-v-preserved c =
-    let l = c.loop-v in
-    let s : suc l.v ≡ l.v + 1 = omega arith in
-    let t : 8 * l.g ≡ l.g * 8 = omega arith in
-    let up = turn l.v l.g c.args.gaps.now l.n l.k _ _ (omega arith) l.invariant.0 (level_up _ _ _ _ _ _ (omega arith)) in
-    let n8 : 8 * (l.n / 8) ≤ l.n = omega arith in
-    let k8 : 8 * (l.k / 8) ≤ l.k = omega arith in (
-      up ∙ (λ i. last_from (s i) (t i) (drop (s i) c.args.gaps.now) (l.n / 8) (l.k / 8)),
-      omega arith,
-      rw (add-one, pow-suc) (omega arith),
-      omega (arith, mul-le-mul_right l.g n8),
-      omega (arith, mul-le-mul_right l.g k8),
-      omega arith,
+pub loop-gap-preserved : goal.loop-gap-preserved
+loop-gap-preserved c =
+    let l = c.loop-gap in
+    let gaps = c.args.gaps.now in
+    let g = l.level.1.0 in
+    let up = c.above-level in
+    let v : suc l.level.0 ≡ up.result.number = omega (arith, up.ensures.number) in
+    let d : 8 * g ≡ up.result.spacing = omega (arith, up.ensures.spacing) in
+    let i : suc l.gap-index ≡ l.gap-index + 1 = omega arith in
+    let below = λ (x : ℕ). div-div-eq-div-mul x g 8 ∙ ap (λ z. x / z) (sym up.ensures.spacing) in
+    let e = turn l.level.0 g l.gap-index gaps _ _ _ _ c.loop-gap-test.true l.invariant.2 (c.in_default.ensures (drop (suc l.gap-index) gaps)) in (
+      omega (arith, up.ensures.number, l.invariant.0),
+      up.result.spaced,
+      e ∙ (λ j. last_from (v j) (d j) (drop (i j) gaps) (below c.args.t j) (below c.args.y j)),
     )
 
-pub returns : goal.returns
-unfolding last_from
-returns c =
-    let l = c.loop-v in
-    let e = l.invariant.0 ∙ ap (λ z. last_from l.v l.g z l.n l.k) (drop_all l.v c.args.gaps.now (omega arith)) in
-    let r = both c.args.gaps.now c.args.t c.args.y (10 * l.v + l.k) (l.k * l.g) _ _ c.requires e (omega arith) refl in
-    record { slot = r.0; time = r.1; few = r.2 }
+pub returns-clause-slot : goal.returns-clause-slot
+returns-clause-slot c =
+    let l = c.loop-gap in sym (ap (λ (k : Kept). k.slot_is) (l.invariant.2 ∙ at_top l.level.0 l.level.1.0 l.gap-index c.args.gaps.now _ _ c.loop-gap-test.false))
+
+pub returns-clause-time : goal.returns-clause-time
+returns-clause-time c =
+    let l = c.loop-gap in sym (ap (λ (k : Kept). k.time_is) (l.invariant.2 ∙ at_top l.level.0 l.level.1.0 l.gap-index c.args.gaps.now _ _ c.loop-gap-test.false))
