@@ -1,2 +1,1 @@
-pub mod Strides
 pub mod Does
