@@ -1,9 +1,14 @@
 // Places and refusals as the user sees them.
+ghost use Rattle.std.specs.Prelude.{Some};
+ghost use Rattle.session.specs.Shown.{place_text, refusal_text};
+
 use crate::debugger::{Place, Refusal};
 use std::fmt;
 
 // Behind the place, why it does not go on from there.
 impl fmt::Display for Place {
+    ghost output = { λ p. Some (place_text p) };
+
     fn fmt<W: fmt::Write>(&self, f: &mut fmt::Formatter<W>) -> fmt::Result {
         let Place { time, spot } = *self;
         write!(f, "{time} at {}", spot.at)?;
@@ -15,6 +20,8 @@ impl fmt::Display for Place {
 }
 
 impl fmt::Display for Refusal {
+    ghost output = { λ e. Some (refusal_text e) };
+
     fn fmt<W: fmt::Write>(&self, f: &mut fmt::Formatter<W>) -> fmt::Result {
         match self {
             Refusal::Full(fed) => write!(
