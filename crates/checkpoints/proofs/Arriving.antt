@@ -1,6 +1,5 @@
 -- The acts of beginning and of arriving by their numbers, and the gaps that become 0. Assumes nothing.
 use Rattle.std.proofs.Common.{◌≡◌, ℕ, zero, suc, ◌+◌, ◌-◌, ◌*◌, ◌/◌, ◌%◌, ◌^◌, ◌<◌, ◌≤◌, min, Bool, true, false, cond, leb, List, [], ◌∷◌, ◌++◌, length, drop, replicate, Some, None, Option, refl, ap, ◌∙◌, arith}
-use mathlib.Core.Option.{none, some}
 use Rattle.std.specs.Int.Count.{count_trailing_zeros, under}
 use Rattle.std.proofs.lemmas.Bool.{leb-true, leb-false}
 use Rattle.checkpoints.specs.Numbers.{fan, levels, top_points}
@@ -12,14 +11,14 @@ use Rattle.checkpoints.proofs.Tables.{slot_small}
 use Rattle.checkpoints.proofs.Stand.{room}
 
 -- from the level v on, the keeps at time 0
-begin_some : (ss : List ℕ) (v i : ℕ) → i ≤ length ss → act_at (start v ss []) i ≡ some (keep (10 * (v + i)))
+begin_some : (ss : List ℕ) (v i : ℕ) → i ≤ length ss → act_at (start v ss []) i ≡ Some (keep (10 * (v + i)))
 unfolding act_at start slot
-begin_some [] v zero h = ap (λ k. some (keep k)) (omega arith)
+begin_some [] v zero h = ap (λ k. Some (keep k)) (omega arith)
 begin_some [] v (suc i) h = absurd (omega arith)
-begin_some (s ∷ ss) v zero h = ap (λ k. some (keep k)) (omega arith)
-begin_some (s ∷ ss) v (suc i) h = begin_some ss (suc v) i (omega arith) ∙ ap (λ k. some (keep k)) (omega arith)
+begin_some (s ∷ ss) v zero h = ap (λ k. Some (keep k)) (omega arith)
+begin_some (s ∷ ss) v (suc i) h = begin_some ss (suc v) i (omega arith) ∙ ap (λ k. Some (keep k)) (omega arith)
 
-begin_none : (ss : List ℕ) (v i : ℕ) → length ss < i → act_at (start v ss []) i ≡ none
+begin_none : (ss : List ℕ) (v i : ℕ) → length ss < i → act_at (start v ss []) i ≡ None
 unfolding act_at start
 begin_none ss v zero h = absurd (omega arith)
 begin_none [] v (suc i) h = refl
@@ -30,7 +29,7 @@ unfolding BeginsSo beginning_slot as_keep
 begins_so ss i g = by_count (leb i 15) refl
   where
     by_count : (b : Bool) → leb i 15 ≡ b → act_at (start 0 ss []) i ≡ as_keep (cond b (Some (10 * i)) None)
-    by_count true e = begin_some ss 0 i (omega (arith, leb-true i 15 e, g.count)) ∙ ap (λ k. some (keep k)) (omega arith)
+    by_count true e = begin_some ss 0 i (omega (arith, leb-true i 15 e, g.count)) ∙ ap (λ k. Some (keep k)) (omega arith)
     by_count false e = begin_none ss 0 i (omega (arith, leb-false i 15 e, g.count))
 
 -- at one level, and what the level above keeps
@@ -45,7 +44,7 @@ in_acts v q (suc m) (suc i) up ups h = refl
 
 arrive_acts : (ss : List ℕ) (v n i : ℕ) → n < top_points * fan ^ length ss → act_at (arrive v n ss []) i ≡ as_keep (arrival_from (length ss) v n i)
 unfolding act_at arrive as_keep arrival_from arrival_top
-arrive_acts [] v n zero h = ap (λ k. some (keep k)) (omega arith)
+arrive_acts [] v n zero h = ap (λ k. Some (keep k)) (omega arith)
 arrive_acts [] v n (suc i) h = refl
 arrive_acts (s ∷ ss) v n i h =
     let h' : n < 30 * 8 ^ suc (length ss) = h in
