@@ -6,6 +6,7 @@ use crate::numbers::{FAN, LEVEL_SLOTS, LEVELS, TOP_POINTS};
 use crate::places::slot_of;
 
 // The slot of keep number `i` at time 0.
+#[tactic(auto, using(std::proofs::lemmas::Bool::Decides::nat_tests), unfolding(crate::specs::Arrivals::beginning_slot))]
 pub fn beginning(i: u64) -> Option<u64>
     ensures slot { result ≡ beginning_slot i }
     ensures few { SlotFew result }
