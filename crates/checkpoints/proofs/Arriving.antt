@@ -184,3 +184,6 @@ reached_zeros (suc l) k n h = by_point (n % 8) refl (reached_zeros l (k - 3) (n 
 pub levels_by_zeros : (n : ℕ) → levels_reached n ≡ min 15 (count_trailing_zeros 64 n / 3 + 1)
 unfolding levels_reached
 levels_by_zeros n = reached_zeros 15 64 n (omega arith)
+
+-- a turn of the loop of `arrival`, and what it answers
+pub ruleset turns = (at_point, in_block, at_end, above_keeps, at_top, top_point, past_top, arrival_few)

@@ -1,6 +1,6 @@
 -- One turn of a loop over the levels: the last kept state. Assumes nothing.
 use Rattle.std.proofs.Common.{◌≡◌, ℕ, zero, suc, ◌+◌, ◌-◌, ◌*◌, ◌/◌, ◌%◌, ◌^◌, ◌<◌, ◌≤◌, List, [], ◌∷◌, length, get_or, drop, ap, ◌∙◌, arith, drop-cons}
-use native.Mathlib.Nat.{pow-le-pow_right}
+use native.Mathlib.Nat.{pow-le-pow_right, div-div-eq-div-mul}
 use Rattle.std.proofs.lemmas.List.{drop_all}
 use Rattle.checkpoints.specs.Numbers.{slots, most_time}
 use Rattle.checkpoints.specs.Policy.{time, slot, Kept, kept, last_in, last_at, last_from, last_kept}
@@ -34,9 +34,6 @@ spacing_small g v h e =
     let q : 8 ^ 0 ≤ 8 ^ v = pow-le-pow_right (omega arith) z in
     (omega arith, omega arith)
 
-pub kept_same : {a b c d : ℕ} → a ≡ c → b ≡ d → kept a b ≡ kept c d
-kept_same p q = λ i. kept (p i) (q i)
-
 in_few : (v g p k gap i e : ℕ) → v < 15 → k ≤ 7 → i ≤ 7 → (last_in v g p k gap i e).slot_is < slots
 unfolding last_in
 in_few v g p k gap i zero low hk hi = slot_small v low p i (omega arith)
@@ -59,12 +56,12 @@ pub last_few : (gaps : List ℕ) (t y : ℕ) → length gaps ≡ 15 → y < most
 unfolding last_kept
 last_few gaps t y h hy = from_few gaps 0 4096 (t / 4096) (y / 4096) (omega arith) (rw h (omega arith))
 
--- what is found, from what is known of the level
-pub turn : (v g i : ℕ) (gaps : List ℕ) (n k : ℕ) (x y : Kept) → i < length gaps → x ≡ last_from v g (drop i gaps) n k →
-    last_from v g (get_or gaps i 0 ∷ drop (suc i) gaps) n k ≡ y → x ≡ y
-turn v g i gaps n k x y h e f = e ∙ ap (λ z. last_from v g z n k) (drop-cons gaps i 0 h) ∙ f
-
 -- with no gap more, the top level has it
 pub at_top : (v g i : ℕ) (gaps : List ℕ) (n k : ℕ) → length gaps ≤ i → last_from v g (drop i gaps) n k ≡ kept (10 * v + k) (k * g)
 unfolding last_from
 at_top v g i gaps n k h = ap (λ z. last_from v g z n k) (drop_all i gaps h)
+
+-- what a level says, and what those above say
+pub ruleset one_level = (in_block, below_point, below_next, level_up, spacing_small)
+
+pub ruleset all_levels = (drop-cons, at_top, last_few, div-div-eq-div-mul)

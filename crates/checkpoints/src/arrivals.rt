@@ -18,6 +18,7 @@ pub fn beginning(i: u64) -> Option<u64>
 }
 
 // The slot of keep number `i` on reaching the time `n` strides from 0. It goes up from level to level, as long as a block begins.
+#[tactic(auto, using(crate::proofs::Arriving::turns), unfolding(crate::specs::Arrivals::arrival_slot))]
 pub fn arrival(n: u64, i: u64) -> Option<u64>
     ensures slot { result ≡ arrival_slot n i }
     ensures few { SlotFew result }

@@ -24,6 +24,7 @@ struct Level {
 }
 
 impl Level {
+    #[tactic(auto, using(crate::proofs::LevelUp::spacing_small))]
     fn above(self) -> Level
         requires { self.number < 15 }
         ensures number { result.number ≡ self.number + 1 }
@@ -49,6 +50,7 @@ impl Level {
     }
 
     // The time is `t`: a kept state at or before `y`, if the two blocks that the level keeps reach back to it. The point that is being built is short by `gap`.
+    #[tactic(auto, using(crate::proofs::LevelUp::one_level))]
     fn last(self, t: u64, y: u64, gap: u64) -> Option<Checkpoint>
         requires { self.number < 15 }
         ensures { Says self.number self.spacing t y gap result }
@@ -71,6 +73,7 @@ impl Level {
 
 // The time is `t`: a kept state at or before `y`, from the lowest level whose two blocks reach back to it. The gaps may be anything; only where they are those
 // of the checkpoints is it kept.
+#[tactic(auto, using(crate::proofs::LevelUp::all_levels), unfolding(crate::specs::Policy::last_kept))]
 pub fn last_kept(gaps: &[u64], t: u64, y: u64) -> Checkpoint
     requires { length gaps.now ≡ 15 }
     ensures slot { result.slot ≡ (last_kept gaps.now t y).slot_is }
