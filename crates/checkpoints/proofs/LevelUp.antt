@@ -1,5 +1,5 @@
 -- One turn of a loop over the levels: the last kept state. Assumes nothing.
-use Rattle.std.proofs.Common.{◌≡◌, ℕ, zero, suc, ◌+◌, ◌-◌, ◌*◌, ◌/◌, ◌%◌, ◌^◌, ◌<◌, ◌≤◌, List, [], ◌∷◌, length, get_or, drop, ap, ◌∙◌, arith, drop-cons}
+use Rattle.std.proofs.Common.{◌≡◌, ℕ, zero, suc, ◌+◌, ◌-◌, ◌*◌, ◌/◌, ◌%◌, ◌^◌, ◌<◌, ◌≤◌, List, [], ◌∷◌, length, get_or, drop, ap, ◌∙◌, add-one, pow-suc, arith, drop-cons}
 use native.Mathlib.Nat.{pow-le-pow_right, div-div-eq-div-mul}
 use Rattle.std.proofs.lemmas.List.{drop_all}
 use Rattle.checkpoints.specs.Numbers.{slots, most_time}
@@ -34,6 +34,9 @@ spacing_small g v h e =
     let q : 8 ^ 0 ≤ 8 ^ v = pow-le-pow_right (omega arith) z in
     (omega arith, omega arith)
 
+pub spacing_up : (g v : ℕ) → g ≡ 4096 * 8 ^ v → g * 8 ≡ 4096 * 8 ^ (v + 1)
+spacing_up g v e = rw (add-one, pow-suc) (omega arith)
+
 in_few : (v g p k gap i e : ℕ) → v < 15 → k ≤ 7 → i ≤ 7 → (last_in v g p k gap i e).slot_is < slots
 unfolding last_in
 in_few v g p k gap i zero low hk hi = slot_small v low p i (omega arith)
@@ -64,4 +67,4 @@ at_top v g i gaps n k h = ap (λ z. last_from v g z n k) (drop_all i gaps h)
 -- what a level says, and what those above say
 pub ruleset one_level = (in_block, below_point, below_next, level_up, spacing_small)
 
-pub ruleset all_levels = (drop-cons, at_top, last_few, div-div-eq-div-mul)
+pub ruleset all_levels = (spacing_small, spacing_up, drop-cons, at_top, last_few, div-div-eq-div-mul)

@@ -4,7 +4,7 @@ ghost use Rattle.checkpoints.specs.Numbers.{most_time};
 ghost use Rattle.checkpoints.specs.Policy.{slot, last_kept};
 ghost use Rattle.checkpoints.specs.Kept.{Says};
 
-use crate::numbers::{FAN, LEVEL_SLOTS, STRIDE};
+use crate::numbers::{FAN, LEVEL_SLOTS, LEVELS, STRIDE};
 use crate::places::slot_of;
 
 // A checkpoint is a kept state, by its slot and its time.
@@ -14,32 +14,19 @@ pub struct Checkpoint {
     pub time: u64,
 }
 
-// A level, from the lowest on, and how many steps its points are apart.
+// A level below the top one, and how many steps its points are apart.
 #[derive(Clone, Copy)]
 struct Level {
     number: u64,
     spacing: u64,
-    ghost few: { number ≤ 15 },
+    ghost low: { number < 15 },
     ghost spaced: { spacing ≡ 4096 * 8 ^ number },
 }
 
 impl Level {
-    #[tactic(auto, using(crate::proofs::LevelUp::spacing_small))]
-    fn above(self) -> Level
-        requires { self.number < 15 }
-        ensures number { result.number ≡ self.number + 1 }
-        ensures spacing { result.spacing ≡ self.spacing * 8 }
-    {
-        Level {
-            number: self.number + 1,
-            spacing: self.spacing * FAN,
-        }
-    }
-
     // What is kept at a point.
     fn point(self, n: u64) -> Checkpoint
-        requires low { self.number < 15 }
-        requires fits { n * self.spacing < 18446744073709551616 }
+        requires { n * self.spacing < 18446744073709551616 }
         ensures slot { result.slot ≡ slot self.number (n / 8) (n % 8) }
         ensures time { result.time ≡ n * self.spacing }
     {
@@ -52,7 +39,6 @@ impl Level {
     // The time is `t`: a kept state at or before `y`, if the two blocks that the level keeps reach back to it. The point that is being built is short by `gap`.
     #[tactic(auto, using(crate::proofs::LevelUp::one_level))]
     fn last(self, t: u64, y: u64, gap: u64) -> Option<Checkpoint>
-        requires { self.number < 15 }
         ensures { Says self.number self.spacing t y gap result }
     {
         let here = t / self.spacing;
@@ -72,7 +58,7 @@ impl Level {
 }
 
 // The time is `t`: a kept state at or before `y`, from the lowest level whose two blocks reach back to it. The gaps may be anything; only where they are those
-// of the checkpoints is it kept.
+// of the checkpoints is it kept. They are a slice, and no array, because they lie in lent memory.
 #[tactic(auto, using(crate::proofs::LevelUp::all_levels), unfolding(crate::specs::Policy::last_kept))]
 pub fn last_kept(gaps: &[u64], t: u64, y: u64) -> Checkpoint
     requires { length gaps.now ≡ 15 }
@@ -80,18 +66,19 @@ pub fn last_kept(gaps: &[u64], t: u64, y: u64) -> Checkpoint
     ensures time { result.time ≡ (last_kept gaps.now t y).time_is }
     ensures few { y < most_time → result.slot < 182 }
 {
-    let mut level = Level {
-        number: 0,
-        spacing: STRIDE,
-    };
-    for gap in gaps {
+    let mut spacing = STRIDE;
+    for (number, gap) in gaps.iter().enumerate() {
+        let level = Level {
+            number: number as u64,
+            spacing,
+        };
         if let Some(found) = level.last(t, y, *gap) {
             return found;
         }
-        level = level.above();
+        spacing *= FAN;
     }
     Checkpoint {
-        slot: LEVEL_SLOTS * level.number + y / level.spacing,
-        time: y / level.spacing * level.spacing,
+        slot: LEVELS * LEVEL_SLOTS + y / spacing,
+        time: y / spacing * spacing,
     }
 }
