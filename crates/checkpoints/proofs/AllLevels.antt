@@ -1,6 +1,5 @@
 -- All levels go back, the highest first. Assumes nothing.
-use Rattle.std.proofs.Common.{◌≡◌, ℕ, zero, suc, ◌+◌, ◌-◌, ◌*◌, ◌/◌, ◌%◌, ◌<◌, ◌≤◌, ◌≢◌, ◌⊎◌, List, [], ◌∷◌, length, sym, refl, ap, ◌∙◌, subst, inl, inr, ⊎_elim, mul-le-mul_right, arith}
-use mathlib.Core.Option.{some}
+use Rattle.std.proofs.Common.{◌≡◌, ℕ, zero, suc, ◌+◌, ◌-◌, ◌*◌, ◌/◌, ◌%◌, ◌<◌, ◌≤◌, ◌≢◌, ◌⊎◌, List, [], ◌∷◌, length, sym, refl, ap, ◌∙◌, subst, inl, inr, ⊎_elim, mul-le-mul_right, arith, Some}
 use Rattle.std.proofs.lemmas.Bool.{cases_eq, cases_lt}
 use Rattle.checkpoints.specs.Slots.{Table, Act, take, go, Runs}
 use Rattle.checkpoints.specs.Policy.{Spot, spot, above, levels_back, levels_gaps, move_levels, settle, back, back_gaps}
@@ -42,7 +41,7 @@ levels_left v g T T' n r (s ∷ ss) o (l, h) =
     (level_left v g T T' (spot n r) s (omega arith) (omega arith) (λ k lo hi. o k lo) l, levels_left (suc v) (8 * g) T T' (n / 8) (n % 8 * g + r) ss (λ k lo. o k (omega arith)) h)
 
 -- the last point at or before the time, and the one before that, are kept
-pub last_two : (v g : ℕ) (T : Table) (n r : ℕ) (ss : List ℕ) (i : ℕ) → i ≤ n → n ≤ suc i → Levels v g T n r ss → T (above v ss i) ≡ some (i * g)
+pub last_two : (v g : ℕ) (T : Table) (n r : ℕ) (ss : List ℕ) (i : ℕ) → i ≤ n → n ≤ suc i → Levels v g T n r ss → T (above v ss i) ≡ Some (i * g)
 unfolding Levels above Below
 last_two v g T n r [] i lo hi h = h i lo
 last_two v g T n r (s ∷ ss) i lo hi (l, h) =
@@ -50,7 +49,7 @@ last_two v g T n r (s ∷ ss) i lo hi (l, h) =
     (λ (d : n / 8 ≢ i / 8). let e : n / 8 ≡ suc (i / 8) = omega arith in
     let b : Below v g T (suc (i / 8)) (7 - n % 8) r s = subst (λ q. Below v g T q (7 - n % 8) r s) e l.below in
     b.points (i % 8) (omega arith)) (cases_eq (n / 8) (i / 8))
-    ∙ ap (λ (k : ℕ). some (k * g)) (omega arith)
+    ∙ ap (λ (k : ℕ). Some (k * g)) (omega arith)
 
 above_far : (v : ℕ) (ss : List ℕ) (i : ℕ) → 10 * v ≤ above v ss i
 unfolding above
@@ -64,7 +63,7 @@ above_gaps v g n r n' r' (s ∷ ss) i = refl
 
 over : (v g : ℕ) (low : v < 15) (far : ℕ) (T : Table) (n r : ℕ) (ss : List ℕ) (i : ℕ) → i ≤ n → n ≤ suc i → Levels (suc v) (8 * g) T n r ss →
     Over v g low far (above (suc v) ss) T i
-over v g low far T n r ss i lo hi h = (omega (arith, above_far (suc v) ss i), last_two (suc v) (8 * g) T n r ss i lo hi h ∙ ap some (omega arith))
+over v g low far T n r ss i lo hi h = (omega (arith, above_far (suc v) ss i), last_two (suc v) (8 * g) T n r ss i lo hi h ∙ ap Some (omega arith))
 
 -- t is n * g + r, with r below g
 pub record Is (g t n r : ℕ) : Type 0 where

@@ -1,6 +1,6 @@
 -- The acts of beginning and of arriving by their numbers, and the gaps that become 0. Assumes nothing.
-use Rattle.std.proofs.Common.{◌≡◌, ℕ, zero, suc, ◌+◌, ◌-◌, ◌*◌, ◌/◌, ◌%◌, ◌^◌, ◌<◌, ◌≤◌, Bool, true, false, cond, leb, List, [], ◌∷◌, ◌++◌, length, drop, replicate, Some, None, Option, refl, ap, ◌∙◌, arith}
-use mathlib.Core.Option.{none, some}
+use Rattle.std.proofs.Common.{◌≡◌, ℕ, zero, suc, ◌+◌, ◌-◌, ◌*◌, ◌/◌, ◌%◌, ◌^◌, ◌<◌, ◌≤◌, min, Bool, true, false, cond, leb, List, [], ◌∷◌, ◌++◌, length, drop, replicate, Some, None, Option, refl, ap, ◌∙◌, arith}
+use Rattle.std.specs.Int.Count.{count_trailing_zeros, under}
 use Rattle.std.proofs.lemmas.Bool.{leb-true, leb-false}
 use Rattle.checkpoints.specs.Numbers.{fan, levels, top_points}
 use Rattle.checkpoints.specs.Slots.{Act, keep, act_at}
@@ -11,14 +11,14 @@ use Rattle.checkpoints.proofs.Tables.{slot_small}
 use Rattle.checkpoints.proofs.Stand.{room}
 
 -- from the level v on, the keeps at time 0
-begin_some : (ss : List ℕ) (v i : ℕ) → i ≤ length ss → act_at (start v ss []) i ≡ some (keep (10 * (v + i)))
+begin_some : (ss : List ℕ) (v i : ℕ) → i ≤ length ss → act_at (start v ss []) i ≡ Some (keep (10 * (v + i)))
 unfolding act_at start slot
-begin_some [] v zero h = ap (λ k. some (keep k)) (omega arith)
+begin_some [] v zero h = ap (λ k. Some (keep k)) (omega arith)
 begin_some [] v (suc i) h = absurd (omega arith)
-begin_some (s ∷ ss) v zero h = ap (λ k. some (keep k)) (omega arith)
-begin_some (s ∷ ss) v (suc i) h = begin_some ss (suc v) i (omega arith) ∙ ap (λ k. some (keep k)) (omega arith)
+begin_some (s ∷ ss) v zero h = ap (λ k. Some (keep k)) (omega arith)
+begin_some (s ∷ ss) v (suc i) h = begin_some ss (suc v) i (omega arith) ∙ ap (λ k. Some (keep k)) (omega arith)
 
-begin_none : (ss : List ℕ) (v i : ℕ) → length ss < i → act_at (start v ss []) i ≡ none
+begin_none : (ss : List ℕ) (v i : ℕ) → length ss < i → act_at (start v ss []) i ≡ None
 unfolding act_at start
 begin_none ss v zero h = absurd (omega arith)
 begin_none [] v (suc i) h = refl
@@ -29,7 +29,7 @@ unfolding BeginsSo beginning_slot as_keep
 begins_so ss i g = by_count (leb i 15) refl
   where
     by_count : (b : Bool) → leb i 15 ≡ b → act_at (start 0 ss []) i ≡ as_keep (cond b (Some (10 * i)) None)
-    by_count true e = begin_some ss 0 i (omega (arith, leb-true i 15 e, g.count)) ∙ ap (λ k. some (keep k)) (omega arith)
+    by_count true e = begin_some ss 0 i (omega (arith, leb-true i 15 e, g.count)) ∙ ap (λ k. Some (keep k)) (omega arith)
     by_count false e = begin_none ss 0 i (omega (arith, leb-false i 15 e, g.count))
 
 -- at one level, and what the level above keeps
@@ -44,7 +44,7 @@ in_acts v q (suc m) (suc i) up ups h = refl
 
 arrive_acts : (ss : List ℕ) (v n i : ℕ) → n < top_points * fan ^ length ss → act_at (arrive v n ss []) i ≡ as_keep (arrival_from (length ss) v n i)
 unfolding act_at arrive as_keep arrival_from arrival_top
-arrive_acts [] v n zero h = ap (λ k. some (keep k)) (omega arith)
+arrive_acts [] v n zero h = ap (λ k. Some (keep k)) (omega arith)
 arrive_acts [] v n (suc i) h = refl
 arrive_acts (s ∷ ss) v n i h =
     let h' : n < 30 * 8 ^ suc (length ss) = h in
@@ -148,21 +148,42 @@ pub past_top : (n i : ℕ) → (i ≡ 0 → ⊥) → arrival_top 15 n i ≡ None
 unfolding arrival_top
 past_top n i h = let e : i ≡ suc (i - 1) = omega arith in ap (arrival_top 15 n) e
 
--- and of the levels that are reached
-pub no_more : (v n : ℕ) → v < 15 → (n % 8 ≡ 0 → ⊥) → reached (15 - v) n ≡ 1
-unfolding reached reached_in
-no_more v n h hm =
-    let l : 15 - v ≡ suc (14 - v) = omega arith in
-    let m : n % 8 ≡ suc (n % 8 - 1) = omega arith in
-    ap (λ x. reached x n) l ∙ (λ k. suc (reached_in (m k) (reached (14 - v) (n / 8))))
+-- Levels that are reached, by zeros at the end: three make a level.
+three_more : (k n : ℕ) → n % 8 ≡ 0 → count_trailing_zeros (suc (suc (suc k))) n ≡ suc (suc (suc (count_trailing_zeros k (n / 8))))
+unfolding count_trailing_zeros
+three_more k n e =
+    let a : n % 2 ≡ 0 = omega (arith, e) in
+    let b : n / 2 % 2 ≡ 0 = omega (arith, e) in
+    let c : n / 2 / 2 % 2 ≡ 0 = omega (arith, e) in
+    let d : n / 2 / 2 / 2 ≡ n / 8 = omega arith in
+    λ i. under (a i) (under (b i) (under (c i) (count_trailing_zeros k (d i))))
 
-pub one_more : (v n : ℕ) → v < 15 → n % 8 ≡ 0 → reached (15 - v) n ≡ suc (reached (15 - (v + 1)) (n / 8))
-unfolding reached reached_in
-one_more v n h m =
-    let l : 15 - v ≡ suc (14 - v) = omega arith in
-    let l' : 14 - v ≡ 15 - (v + 1) = omega arith in
-    ap (λ x. reached x n) l ∙ (λ k. suc (reached_in (m k) (reached (l' k) (n / 8))))
+no_three : (k n : ℕ) → (n % 8 ≡ 0 → ⊥) → count_trailing_zeros (suc (suc (suc k))) n ≤ 2
+unfolding count_trailing_zeros
+no_three k n h = few (n % 2) (n / 2 % 2) (n / 2 / 2 % 2) (count_trailing_zeros k (n / 2 / 2 / 2)) (λ e. h (omega (arith, e)))
+  where
+    few : (a b c t : ℕ) → (a + 2 * b + 4 * c ≡ 0 → ⊥) → under a (under b (under c t)) ≤ 2
+    few zero zero zero t h = absurd (h refl)
+    few (suc a) b c t h = omega arith
+    few zero (suc b) c t h = omega arith
+    few zero zero (suc c) t h = omega arith
 
-pub none_left : (v n : ℕ) → v ≡ 15 → reached (15 - v) n ≡ 0
-unfolding reached
-none_left v n e = rw e
+reached_zeros : (l k n : ℕ) → 3 * l ≤ k → reached l n ≡ min l (count_trailing_zeros k n / 3 + 1)
+unfolding reached reached_in
+reached_zeros zero k n h = omega arith
+reached_zeros (suc l) k n h = by_point (n % 8) refl (reached_zeros l (k - 3) (n / 8) (omega arith))
+  where
+    k' : k ≡ suc (suc (suc (k - 3)))
+    k' = omega arith
+
+    by_point : (m : ℕ) → n % 8 ≡ m → reached l (n / 8) ≡ min l (count_trailing_zeros (k - 3) (n / 8) / 3 + 1) →
+        suc (reached_in m (reached l (n / 8))) ≡ min (suc l) (count_trailing_zeros k n / 3 + 1)
+    by_point zero e up = omega (arith, ap (λ x. count_trailing_zeros x n) k', three_more (k - 3) n e, up)
+    by_point (suc m) e up = omega (arith, ap (λ x. count_trailing_zeros x n) k', no_three (k - 3) n (λ z. omega (arith, e, z)))
+
+pub levels_by_zeros : (n : ℕ) → levels_reached n ≡ min 15 (count_trailing_zeros 64 n / 3 + 1)
+unfolding levels_reached
+levels_by_zeros n = reached_zeros 15 64 n (omega arith)
+
+-- a turn of the loop of `arrival`, and what it answers
+pub ruleset turns = (at_point, in_block, at_end, above_keeps, at_top, top_point, past_top, arrival_few)

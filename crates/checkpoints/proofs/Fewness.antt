@@ -1,6 +1,5 @@
 -- No plan speaks of a slot past the last: what can be carried out where only the slots hold anything takes up no other. Assumes nothing.
-use Rattle.std.proofs.Common.{◌≡◌, ℕ, ◌+◌, ◌/◌, ◌<◌, ◌≤◌, cond, ltb, List, [], ◌∷◌, refl, ◌∙◌, ⊎_elim, arith}
-use mathlib.Core.Option.{none}
+use Rattle.std.proofs.Common.{◌≡◌, ℕ, ◌+◌, ◌/◌, ◌<◌, ◌≤◌, cond, ltb, List, [], ◌∷◌, refl, ◌∙◌, ⊎_elim, arith, None}
 use Rattle.std.proofs.lemmas.Bool.{cases_lt, lt-ltb, le-ltb}
 use Rattle.checkpoints.specs.Numbers.{slots, here}
 use Rattle.checkpoints.specs.Slots.{Table, put, Act, take, go, keep, Runs, Few}
@@ -15,7 +14,7 @@ use Rattle.checkpoints.proofs.LevelUp.{last_few}
 
 -- nothing past the last slot
 abbrev Bare : Table → Type 0
-Bare T = (k : ℕ) → slots ≤ k → T k ≡ none
+Bare T = (k : ℕ) → slots ≤ k → T k ≡ None
 
 runs_few : (far : ℕ) (acts : List Act) (T : Table) (a c : ℕ) (Q : Goal) → Bare T → Runs far acts T a c Q → Few acts
 unfolding Runs Few
@@ -27,7 +26,7 @@ runs_few far (keep k ∷ rest) T a c Q b h = (h.0, runs_few far rest (put T k a)
 
 -- a table without what is past the last slot
 bare : Table → Table
-bare T k = cond (ltb k slots) (T k) none
+bare T k = cond (ltb k slots) (T k) None
 
 bare_low : (T : Table) (k : ℕ) → k < here → bare T k ≡ T k
 unfolding bare

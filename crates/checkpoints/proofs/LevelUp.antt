@@ -1,6 +1,7 @@
 -- One turn of a loop over the levels: the last kept state. Assumes nothing.
-use Rattle.std.proofs.Common.{◌≡◌, ℕ, zero, suc, ◌+◌, ◌-◌, ◌*◌, ◌/◌, ◌%◌, ◌^◌, ◌<◌, ◌≤◌, List, [], ◌∷◌, length, get_or, drop, sym, ap, ◌∙◌, arith, drop-cons}
-use native.Mathlib.Nat.{pow-le-pow_right}
+use Rattle.std.proofs.Common.{◌≡◌, ℕ, zero, suc, ◌+◌, ◌-◌, ◌*◌, ◌/◌, ◌%◌, ◌^◌, ◌<◌, ◌≤◌, List, [], ◌∷◌, length, get_or, drop, ap, ◌∙◌, add-one, pow-suc, arith, drop-cons}
+use native.Mathlib.Nat.{pow-le-pow_right, div-div-eq-div-mul}
+use Rattle.std.proofs.lemmas.List.{drop_all}
 use Rattle.checkpoints.specs.Numbers.{slots, most_time}
 use Rattle.checkpoints.specs.Policy.{time, slot, Kept, kept, last_in, last_at, last_from, last_kept}
 use Rattle.checkpoints.proofs.Tables.{slot_small}
@@ -26,13 +27,15 @@ unfolding last_from last_at
 level_up v g s ss n k h = let z : n / 8 - k / 8 ≡ suc (suc (n / 8 - k / 8 - 2)) = omega arith in rw z
 
 -- spacings of levels fit
-pub spacing_small : (g v : ℕ) → v < 15 → g ≡ 4096 * 8 ^ v → (g * 8 ≤ 144115188075855872) × (0 < g)
+pub spacing_small : (g v : ℕ) → v ≤ 15 → g ≡ 4096 * 8 ^ v → (g * 8 ≤ 1152921504606846976) × (0 < g)
 spacing_small g v h e =
-    let l : v ≤ 14 = omega arith in
-    let p : 8 ^ v ≤ 8 ^ 14 = pow-le-pow_right (omega arith) l in
+    let p : 8 ^ v ≤ 8 ^ 15 = pow-le-pow_right (omega arith) h in
     let z : 0 ≤ v = omega arith in
     let q : 8 ^ 0 ≤ 8 ^ v = pow-le-pow_right (omega arith) z in
     (omega arith, omega arith)
+
+pub spacing_up : (g v : ℕ) → g ≡ 4096 * 8 ^ v → g * 8 ≡ 4096 * 8 ^ (v + 1)
+spacing_up g v e = rw (add-one, pow-suc) (omega arith)
 
 in_few : (v g p k gap i e : ℕ) → v < 15 → k ≤ 7 → i ≤ 7 → (last_in v g p k gap i e).slot_is < slots
 unfolding last_in
@@ -56,14 +59,12 @@ pub last_few : (gaps : List ℕ) (t y : ℕ) → length gaps ≡ 15 → y < most
 unfolding last_kept
 last_few gaps t y h hy = from_few gaps 0 4096 (t / 4096) (y / 4096) (omega arith) (rw h (omega arith))
 
--- what is found, from what is known of the level
-pub turn : (v g : ℕ) (gaps : List ℕ) (n k : ℕ) (x y : Kept) → v < length gaps → x ≡ last_from v g (drop v gaps) n k →
-    last_from v g (get_or gaps v 0 ∷ drop (suc v) gaps) n k ≡ y → x ≡ y
-turn v g gaps n k x y h e f = e ∙ ap (λ z. last_from v g z n k) (drop-cons gaps v 0 h) ∙ f
+-- with no gap more, the top level has it
+pub at_top : (v g i : ℕ) (gaps : List ℕ) (n k : ℕ) → length gaps ≤ i → last_from v g (drop i gaps) n k ≡ kept (10 * v + k) (k * g)
+unfolding last_from
+at_top v g i gaps n k h = ap (λ z. last_from v g z n k) (drop_all i gaps h)
 
--- what is answered: slot and time, and that the slot is one of the slots where y is a time
-pub both : (gaps : List ℕ) (t y : ℕ) (a b c d : ℕ) → length gaps ≡ 15 → last_kept gaps t y ≡ kept a b → c ≡ a → d ≡ b →
-    (c ≡ (last_kept gaps t y).slot_is) × (d ≡ (last_kept gaps t y).time_is) × (y < most_time → c < slots)
-both gaps t y a b c d h e p q =
-    let s : c ≡ (last_kept gaps t y).slot_is = p ∙ sym (ap (λ z. z.slot_is) e) in
-    (s, q ∙ sym (ap (λ z. z.time_is) e), λ hy. omega (arith, last_few gaps t y h hy))
+-- what a level says, and what those above say
+pub ruleset one_level = (in_block, below_point, below_next, level_up, spacing_small)
+
+pub ruleset all_levels = (spacing_small, spacing_up, drop-cons, at_top, last_few, div-div-eq-div-mul)

@@ -1,6 +1,5 @@
 -- The statements. Assumes nothing.
-use Rattle.std.proofs.Common.{◌≡◌, ℕ, zero, suc, ◌+◌, ◌-◌, ◌*◌, ◌/◌, ◌%◌, ◌^◌, ◌<◌, ◌≤◌, List, [], ◌∷◌, length, refl, ap, ◌∙◌, subst₂, mul-le-mul_right, arith}
-use mathlib.Core.Option.{none}
+use Rattle.std.proofs.Common.{◌≡◌, ℕ, zero, suc, ◌+◌, ◌-◌, ◌*◌, ◌/◌, ◌%◌, ◌^◌, ◌<◌, ◌≤◌, List, [], ◌∷◌, length, replicate, refl, ap, ◌∙◌, subst₂, mul-le-mul_right, arith, None}
 use Rattle.checkpoints.specs.Numbers.{most_time}
 use Rattle.checkpoints.specs.Slots.{Runs}
 use Rattle.checkpoints.specs.Policy.{gaps_in, arrive_gaps, strides_gaps, forward_gaps, level_gap, levels_gaps, back_gaps}
@@ -112,15 +111,12 @@ pub finds_none : FindsNone
 unfolding FindsNone
 finds_none T t ss g h r = search_none_runs t ss T (omega arith) (room (t / 4096) ss g (omega arith)) r
 
-zeros : ℕ → List ℕ
-zeros zero = []
-zeros (suc n) = 0 ∷ zeros n
-
 pub can_be_ready : CanBeReady
-unfolding CanBeReady zeros Small Starts GoesForward
+unfolding CanBeReady Small Starts GoesForward
 can_be_ready t h =
-    let g : Gaps (zeros 15) = record { count = refl; small = omega arith } in
-    let (T₀, a₀, c₀, r₀) = runs_end 0 _ (λ _. none) 0 0 _ (starts (zeros 15) (λ _. none) g) in
-    let f = goes_forward T₀ 0 t (zeros 15) g (omega arith) h r₀.2 in
+    let zeros : List ℕ = replicate 15 0 in
+    let g : Gaps zeros = record { count = refl; small = omega arith } in
+    let (T₀, a₀, c₀, r₀) = runs_end 0 _ (λ _. None) 0 0 _ (starts zeros (λ _. None) g) in
+    let f = goes_forward T₀ 0 t zeros g (omega arith) h r₀.2 in
     let (T, a, c, r) = runs_end t _ T₀ 0 0 _ f.1 in
-    (T, forward_gaps 0 t (zeros 15), f.0, r.2)
+    (T, forward_gaps 0 t zeros, f.0, r.2)

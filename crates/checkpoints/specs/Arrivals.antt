@@ -1,15 +1,13 @@
 -- The acts of beginning and of arriving by their numbers, and the gaps that become 0, as code computes them. Assumes nothing.
 use Rattle.std.specs.Prelude.{ℕ, zero, suc, ◌+◌, ◌-◌, ◌*◌, ◌/◌, ◌%◌, ◌<◌, cond, Some, None, Option, nat_le}
-use Rattle.std.proofs.Math.Option.{none, some}
-use Rattle.std.proofs.Math.Option as core
 use Rattle.checkpoints.specs.Numbers.{fan, levels, level_slots, top_points, slots}
 use Rattle.checkpoints.specs.Slots.{Act, keep}
 use Rattle.checkpoints.specs.Policy.{slot}
 
 -- the act that keeps into a slot, where there is one
-unfoldable pub as_keep : Option ℕ → core.Option Act
-as_keep None = none
-as_keep (Some k) = some (keep k)
+unfoldable pub as_keep : Option ℕ → Option Act
+as_keep None = None
+as_keep (Some k) = Some (keep k)
 
 abbrev pub SlotFew : Option ℕ → Type 0
 SlotFew None = Unit

@@ -4,3 +4,5 @@ pub mod Policy
 pub mod Arrivals
 pub mod Ready
 pub mod Statements
+pub mod Strides
+pub mod Kept

@@ -1,7 +1,6 @@
 -- What the checkpoints are for: going on and back, and looking back, each within its steps. Each is a statement; a function of src/statements.rt has it as
 -- its contract. Assumes nothing.
-use Rattle.std.specs.Prelude.{◌≡◌, ℕ, suc, ◌+◌, ◌-◌, ◌*◌, ◌/◌, ◌<◌, ◌≤◌, max, ◌≢◌, List, [], ◌∷◌, ◌++◌, length, drop, replicate}
-use Rattle.std.proofs.Math.Option.{some}
+use Rattle.std.specs.Prelude.{◌≡◌, ℕ, suc, ◌+◌, ◌-◌, ◌*◌, ◌/◌, ◌<◌, ◌≤◌, max, ◌≢◌, List, [], ◌∷◌, ◌++◌, length, drop, replicate, Some}
 use Rattle.checkpoints.specs.Numbers.{stride, fan, levels, level_slots, slots, most_time}
 use Rattle.checkpoints.specs.Slots.{Table, Runs, Few, act_at}
 use Rattle.checkpoints.specs.Policy.{slot, start, restart, arrive, arrive_gaps, forward, forward_gaps, move_levels, settle, back, back_gaps, last_kept, search_back, search_none}
@@ -87,7 +86,7 @@ GoesBack =
 unfoldable pub KeptNear : Type 0
 KeptNear =
     (T : Table) (t y : ℕ) (ss : List ℕ) → y < t → Ready T t ss →
-    (T (last_kept ss t y).slot_is ≡ some (last_kept ss t y).time_is)
+    (T (last_kept ss t y).slot_is ≡ Some (last_kept ss t y).time_is)
     × ((last_kept ss t y).time_is ≤ y) × (suc y - (last_kept ss t y).time_is ≤ max stride (t - suc y))
 
 unfoldable pub FindsBack : Type 0

@@ -1,12 +1,10 @@
 -- What an act makes of a target, from what the processor promises of it. Assumes nothing.
-use Rattle.std.proofs.Common.{◌≡◌, ℕ, ◌+◌, ◌<◌, ◌≤◌, Bool, true, List, [], ◌∷◌, length, take, drop, is_err, Ok, Err, Result, sym, ap, subst, arith}
+use Rattle.std.proofs.Common.{◌≡◌, ℕ, ◌≤◌, Bool, true, List, [], ◌∷◌, take, drop, is_err, Ok, Err, Result, sym, ap, subst, arith}
 use Rattle.std.proofs.lemmas.Bool.{le-leb}
 use Rattle.target.specs.Run.{Event, said, came, saw, next, feeds, goes, looks_words, looks_outs, Target, World, Ran, ran, words_of, one_act}
-use Rattle.target.specs.Acts.{Does, Feeds}
-use Rattle.target.specs.declared.answers.Fault.{Fault}
-use Rattle.target.specs.declared.answers.Fault.TheVariants.{TooLong, TooManyBreaks, NoSuchSlot, EmptySlot, TooManyNumbers, NoMemory}
+use Rattle.target.specs.Acts.{Does}
 use Rattle.session.specs.declared.debugger.Refusal.{Refusal}
-use Rattle.session.specs.Does.{Stays, Went, Later, Forwards, fed_with}
+use Rattle.session.specs.Does.{Went, Later, Forwards, fed_with}
 
 abbrev numbers_of : Event → List ℕ
 numbers_of (said ns) = ns
@@ -33,15 +31,6 @@ module _ (before after : Target → Type 0) where
       let h = d t b in
       let e = h.2 ends [] 0 [] in
       let k = ap (λ (r : Ran). r.steps) e in (subst after (sym (ap (λ (r : Ran). r.here.target) e)) h.1, omega (arith, k))
-
-  -- memory alone can be wanting
-  pub not_fed : (vs : List ℕ) (f : Fault) → Feeds vs before after {A = Unit {0}} (Err f) → Stays before after × ((t : Target) → before t → 65536 < length t.fed + length vs)
-  not_fed vs TooLong h = absurd h
-  not_fed vs TooManyBreaks h = absurd h
-  not_fed vs NoSuchSlot h = absurd h
-  not_fed vs EmptySlot h = absurd h
-  not_fed vs TooManyNumbers h = absurd h
-  not_fed vs NoMemory h = (λ t b. (h t b).1, λ t b. (h t b).0)
 
 module _ (like : Target → Type 0) where
   pub words_by : (a n : ℕ) (vs : List ℕ) → n ≤ 4096 → Does (looks_words a n) (saw vs) 0 like like → (t : Target) → like t → words_of t a n ≡ vs

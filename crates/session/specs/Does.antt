@@ -3,7 +3,7 @@ use Rattle.std.specs.Prelude.{◌≡◌, ℕ, ◌+◌, ◌-◌, ◌<◌, ◌≤�
 use Rattle.command.specs.declared.code.Instr.{Instr as Code}
 use Rattle.command.specs.Codes.{codes}
 use Rattle.target.specs.Run.{Target, Came, fresh_target, with_state, words_of, going}
-use Rattle.session.specs.Strides.{stride}
+use Rattle.checkpoints.specs.Strides.{stride}
 use Rattle.session.specs.declared.debugger.Refusal.{Refusal}
 use Rattle.session.specs.declared.debugger.Refusal.TheVariants.{Full, Fault, NoMemory}
 

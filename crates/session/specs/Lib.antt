@@ -1,2 +1,2 @@
-pub mod Strides
 pub mod Does
+pub mod Shown

@@ -1,9 +1,10 @@
 // A processor with its program, how far it has gone, and how much has come in.
 ghost use Rattle.std.specs.Prelude.{◌≡◌, IfOk};
+ghost use Rattle.session.specs.declared.debugger.Refusal.TheVariants as refusal;
 ghost use Rattle.target.specs.Acts.{TellsRegs, TellsSpot};
-ghost use Rattle.session.specs.Strides.{stride as stride_of};
 ghost use Rattle.session.specs.Does.{Strode, Forwards, Loads, Gives, SeenWords, SeenOuts};
 
+use checkpoints::stride;
 use command::code::Instr;
 use std::alloc::{AllocError, Global};
 use target::answers::{Fault, Spot};
@@ -12,8 +13,6 @@ use target::processor::Processor;
 const WORDS: u64 = 65_536;
 
 const MOST_FED: usize = 65_536;
-// States can be kept at the multiples of this many steps.
-const STRIDE: u64 = 4_096;
 
 #[derive(Drop)]
 pub struct Session<P> {
@@ -25,14 +24,14 @@ pub struct Session<P> {
 }
 
 // Where the processor is, and when.
-#[derive(Clone, Copy)]
+#[derive(Clone, Copy, Debug, PartialEq, Eq)]
 pub struct Place {
     pub time: u64,
     pub spot: Spot,
 }
 
 // Why a command was not carried out.
-#[derive(Clone, Copy)]
+#[derive(Clone, Copy, Debug, PartialEq, Eq)]
 pub enum Refusal {
     // Too many numbers would have come in: so many have.
     Full(usize),
@@ -41,22 +40,19 @@ pub enum Refusal {
 }
 
 impl From<Fault> for Refusal {
+    ghost from_gives = { λ fault r. r ≡ refusal.Fault fault };
+
     fn from(fault: Fault) -> Refusal {
         Refusal::Fault(fault)
     }
 }
 
 impl From<AllocError> for Refusal {
+    ghost from_gives = { λ error r. r ≡ refusal.NoMemory };
+
     fn from(_error: AllocError) -> Refusal {
         Refusal::NoMemory
     }
-}
-
-// How far to go at once.
-fn stride(time: u64, left: u64) -> u64
-    ensures { result ≡ stride_of time left }
-{
-    left.min(STRIDE - time % STRIDE)
 }
 
 impl<P: Processor> Session<P> {
@@ -88,9 +84,7 @@ impl<P: Processor> Session<P> {
         if self.fed.saturating_add(more.len()) > MOST_FED {
             return Err(Refusal::Full(self.fed));
         }
-        if let Err(fault) = self.processor.feed(more) {
-            return Err(Refusal::Fault(fault));
-        }
+        self.processor.feed(more)?;
         self.fed += more.len();
         Ok(())
     }

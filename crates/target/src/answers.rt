@@ -1,7 +1,7 @@
 // What a processor answers: how far it came, where it is, why it does not go on, and why it refuses.
 
 // Why there is no step from here.
-#[derive(Clone, Copy)]
+#[derive(Clone, Copy, Debug, PartialEq, Eq)]
 pub enum Why {
     Halted,
     // For something to come in.
@@ -13,7 +13,7 @@ pub enum Why {
 }
 
 // How far it came, whether a break holds there, and why it does not go on, where it was stopped by that.
-#[derive(Clone, Copy)]
+#[derive(Clone, Copy, Debug, PartialEq, Eq)]
 pub struct Came {
     pub by: u64,
     pub hit: bool,
@@ -21,14 +21,14 @@ pub struct Came {
 }
 
 // The place, and why it does not go on from there, if it does not.
-#[derive(Clone, Copy)]
+#[derive(Clone, Copy, Debug, PartialEq, Eq)]
 pub struct Spot {
     pub at: u32,
     pub why: Option<Why>,
 }
 
 // Why a processor refuses. It is then as it was.
-#[derive(Clone, Copy)]
+#[derive(Clone, Copy, Debug, PartialEq, Eq)]
 pub enum Fault {
     // More than 4,096 instructions.
     TooLong,

@@ -3,4 +3,6 @@
 
 pub mod answers;
 pub mod processor;
+pub mod reasons;
 pub mod statements;
+pub mod texts;

@@ -2,6 +2,7 @@
 ghost use Rattle.target.specs.Statements.{GoingOn, GoingThere};
 
 // Going on by n and then by m is going on by n + m.
+#[tactic(auto, using(crate::proofs::Goings::going_on))]
 pub fn going_on() -> u8
     ensures { GoingOn }
 {
@@ -9,6 +10,7 @@ pub fn going_on() -> u8
 }
 
 // Going on by n from the beginning comes to the state at time n, if the processor runs there.
+#[tactic(auto, using(crate::proofs::Goings::going_there))]
 pub fn going_there() -> u8
     ensures { GoingThere }
 {

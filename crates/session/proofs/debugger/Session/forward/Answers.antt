@@ -1,5 +1,5 @@
 use Rattle.std.proofs.Common.{◌≡◌, ℕ, ◌+◌, ◌-◌, ◌<◌, ◌∙◌, subst, arith}
-use Rattle.session.specs.Strides.{stride}
+use Rattle.checkpoints.specs.Strides.{stride}
 use Rattle.session.specs.Does.{Went}
 use Rattle.session.proofs.Going.{went_none, went_on, went_stuck, went_same}
 use Rattle.session.proofs.Done.{failed}
@@ -11,6 +11,7 @@ loop-left-init g c =
     let z : 0 ≡ c.args.n - c.args.n = omega arith in (omega arith, λ _. omega arith, subst (λ (m : ℕ). Went m like like m) z (went_none like))
 
 pub returns-then-by-eq0 : goal.returns-then-by-eq0
+unfolding stride
 returns-then-by-eq0 g c =
     let before = g.P.Processor.like c.args.self.now.processor in
     let mid = g.P.Processor.like c.loop-left.self.processor in

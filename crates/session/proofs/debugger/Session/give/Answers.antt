@@ -8,7 +8,7 @@ returns g c =
       given = (
         omega (arith, c.saturating_add.ensures),
         refl,
-        fed_by (g.P.Processor.like c.args.self.now.processor) (g.P.Processor.like c.feed.new.self) c.args.more.now c.in_default.ensures,
+        fed_by (g.P.Processor.like c.args.self.now.processor) (g.P.Processor.like c.feed.new.self) c.args.more.now c.in_ok-feed.ensures,
       );
       time = refl;
     }

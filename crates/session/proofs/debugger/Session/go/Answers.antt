@@ -2,12 +2,13 @@ use Rattle.std.proofs.Common.{ℕ, [], subst, arith}
 use Rattle.target.specs.Run.{goes, came}
 use Rattle.target.specs.Acts.{Does}
 use Rattle.target.specs.Whys.{why_number}
-use Rattle.session.specs.Strides.{stride}
+use Rattle.checkpoints.specs.Strides.{stride}
 use Rattle.session.proofs.Going.{gone_few}
 use Rattle.session.proofs.Done.{went_by}
 use Rattle.session.proofs.debugger.Session.go.Goals as goal
 
 pub returns : goal.returns
+unfolding stride
 returns g c =
     let n = stride c.args.self.now.time c.args.left in
     let before = g.P.Processor.like c.args.self.now.processor in
