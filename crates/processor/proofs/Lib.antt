@@ -1,6 +1,6 @@
 pub mod Ops
 pub mod Writes
-pub mod Copies
+pub mod Faults
 pub mod Defaults
 pub mod Marks
 pub mod Rows
