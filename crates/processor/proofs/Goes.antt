@@ -1,15 +1,14 @@
 -- Going on, a step at a time. Assumes nothing.
-use Rattle.std.proofs.Common.{◌≡◌, ℕ, suc, ◌+◌, ◌-◌, ◌<◌, ◌≤◌, Bool, true, false, List, Some, None, sym, refl, ap, ◌∙◌, subst, add-one, arith}
+use Rattle.std.proofs.Common.{◌≡◌, ℕ, suc, ◌+◌, ◌-◌, ◌<◌, ◌≤◌, Bool, true, false, List, Some, None, Option, sym, refl, ap, ◌∙◌, subst, add-one, arith}
 use Rattle.command.specs.Machine.{any, Instr, State as Model, running, is_running, step}
 use Rattle.command.specs.Plain.{Break as Stop, holds, status_number}
 use Rattle.target.specs.Run.{going, came_to}
 use Rattle.processor.specs.declared.state.State.{State}
 use Rattle.target.specs.declared.answers.Why.{Why}
 use Rattle.target.specs.declared.answers.Why.TheVariants.{Halted, Waits, NoInstr, NoWord, ByZero}
-use Rattle.processor.specs.declared.steps.Went.{Went}
-use Rattle.processor.specs.declared.steps.Went.TheVariants.{On, Wrote, Not}
+use Rattle.processor.specs.declared.steps.Overwritten.{Overwritten}
 use Rattle.target.specs.Whys.{status_of}
-use Rattle.processor.specs.Like.{Base, Like, OnTo, Stays, After, CameTo}
+use Rattle.processor.specs.Like.{Base, Like, OnTo, Stays, CameTo}
 
 left : (n by : ℕ) → by < n → n - by ≡ suc (n - (by + 1))
 left n by h = omega arith
@@ -42,29 +41,24 @@ not_running NoInstr = refl
 not_running NoWord = refl
 not_running ByZero = refl
 
-pub went_on : (b : Base) (m : State) (w : Went) (s t : Model) → After b m w s t → ((y : Why) → w ≡ Not y → ⊥) → OnTo b m w s t
-went_on b m On s t a ny = a
-went_on b m (Wrote p v) s t a ny = a
-went_on b m (Not y) s t a ny = absurd (ny y refl)
-
 -- a state to go on from, from which the rest makes up the whole
 abbrev pub SoFar : List Instr → List ℕ → List Stop → Base → State → ℕ → ℕ → Model → Type 0
 SoFar is ins bs b m n by s = (t : Model) × Like b m t × (going n is ins bs s 0 ≡ going (n - by) is ins bs t by)
 
 module _ (is : List Instr) (ins : List ℕ) (bs : List Stop) (b : Base) (m m₁ : State) (n by : ℕ) (s : Model) where
-  pub far_on : (w : Went) (h : Bool) → by < n → SoFar is ins bs b m n by s
-      → ((t : Model) → Like b m t → After b m₁ w t (step is ins t)) → ((y : Why) → w ≡ Not y → ⊥)
+  pub far_on : (w : Option Overwritten) (h : Bool) → by < n → SoFar is ins bs b m n by s
+      → ((t : Model) → Like b m t → OnTo b m₁ w t (step is ins t))
       → ((t u : Model) → OnTo b m₁ w t u → h ≡ any (holds t u) bs) → h ≡ false → SoFar is ins bs b m₁ n (by + 1) s
-  far_on w h lt (t, l, e) f ny g z =
-      let o = went_on b m₁ w t (step is ins t) (f t l) ny in
+  far_on w h lt (t, l, e) f g z =
+      let o = f t l in
       (step is ins t, o.like, e ∙ goes_on is ins bs n by t lt o.like.runs (sym (g t _ o) ∙ z))
 
-  pub far_hit : (w : Went) (h : Bool) → by < n → SoFar is ins bs b m n by s
-      → ((t : Model) → Like b m t → After b m₁ w t (step is ins t)) → ((y : Why) → w ≡ Not y → ⊥)
+  pub far_hit : (w : Option Overwritten) (h : Bool) → by < n → SoFar is ins bs b m n by s
+      → ((t : Model) → Like b m t → OnTo b m₁ w t (step is ins t))
       → ((t u : Model) → OnTo b m₁ w t u → h ≡ any (holds t u) bs) → h ≡ true
       → CameTo b m₁ (record { by = by + 1; hit = true; why = None }) (going n is ins bs s 0)
-  far_hit w h lt (t, l, e) f ny g z =
-      let o = went_on b m₁ w t (step is ins t) (f t l) ny in
+  far_hit w h lt (t, l, e) f g z =
+      let o = f t l in
       let k = e ∙ goes_hit is ins bs n by t lt o.like.runs (sym (g t _ o) ∙ z) in
       subst (CameTo b m₁ (record { by = by + 1; hit = true; why = None })) (sym k) (record { like = o.like; by = refl; hit = refl; why = refl })
 
@@ -76,6 +70,6 @@ module _ (is : List Instr) (ins : List ℕ) (bs : List Stop) (b : Base) (m m₁ 
       let k = e ∙ goes_not is ins bs n by t lt (ap is_running o.why ∙ not_running y) ∙ ap (λ z. came_to t by false (status_number z)) o.why in
       subst (CameTo b m₁ (record { by = by; hit = false; why = Some y })) (sym k) (record { like = o.like; by = refl; hit = refl; why = refl })
 
-  pub far_all : by ≤ n → n ≤ by → SoFar is ins bs b m n by s → CameTo b m (record { by = by; hit = false; why = None }) (going n is ins bs s 0)
-  far_all le ge (t, l, e) =
-      subst (CameTo b m (record { by = by; hit = false; why = None })) (sym (e ∙ goes_none is ins bs n by t le ge)) (record { like = l; by = refl; hit = refl; why = refl })
+  pub far_all : SoFar is ins bs b m n n s → CameTo b m (record { by = n; hit = false; why = None }) (going n is ins bs s 0)
+  far_all (t, l, e) =
+      subst (CameTo b m (record { by = n; hit = false; why = None })) (sym (e ∙ goes_none is ins bs n n t (omega arith) (omega arith))) (record { like = l; by = refl; hit = refl; why = refl })

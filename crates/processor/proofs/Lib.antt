@@ -1,6 +1,7 @@
 pub mod Ops
 pub mod Writes
-pub mod Copies
+pub mod Faults
+pub mod Tests
 pub mod Defaults
 pub mod Marks
 pub mod Rows

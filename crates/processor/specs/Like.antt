@@ -1,13 +1,13 @@
 -- When the processor holds a state of its definition, and what a step may make of it. Assumes nothing: these are definitions.
-use Rattle.std.specs.Prelude.{◌≡◌, ℕ, ◌+◌, ◌≤◌, List, ◌++◌, length, drop, vec_items, vec_capacity, ◌==◌, slice_index}
+use Rattle.std.specs.Prelude.{◌≡◌, ℕ, ◌+◌, ◌≤◌, List, ◌++◌, length, drop, Some, None, Option, Ok, Err, Result, vec_items, vec_capacity, ◌==◌, slice_index}
 use Rattle.command.specs.Machine.{pick, word_at, Status, running, State as Model}
 use Rattle.target.specs.declared.answers.Came.{Came}
+use Rattle.target.specs.declared.answers.Why.{Why}
 use Rattle.target.specs.Run.{Came as Far}
 use Rattle.target.specs.Whys.{status_of, why_number}
 use Rattle.processor.specs.declared.pages.Pages.{Pages}
 use Rattle.processor.specs.declared.state.State.{State}
-use Rattle.processor.specs.declared.steps.Went.{Went}
-use Rattle.processor.specs.declared.steps.Went.TheVariants.{On, Wrote, Not}
+use Rattle.processor.specs.declared.steps.Overwritten.{Overwritten}
 
 abbrev pub held : State → List ℕ
 held m = vec_items m.words.items
@@ -32,13 +32,17 @@ pub record Like (b : Base) (m : State) (s : Model) : Type 0 where
   pub pages : m.words.pages ≡ b.pages
   pub runs : s.status ≡ running
 
--- what the words were before, if it went on
-abbrev pub before : Went → (ℕ → ℕ) → ℕ → ℕ
-before On f a = f a
-before (Wrote p v) f a = pick (p == a) v (f a)
-before (Not y) f a = f a
+-- a state that may go on to the next place
+pub record Ready (b : Base) (m : State) (next : ℕ) (s : Model) : Type 0 where
+  pub like : Like b m s
+  pub follows : next ≡ m.at + 1
 
-pub record OnTo (b : Base) (m : State) (w : Went) (s t : Model) : Type 0 where
+-- what the words were before, if it went on
+abbrev pub before : Option Overwritten → (ℕ → ℕ) → ℕ → ℕ
+before None f a = f a
+before (Some w) f a = pick (w.place == a) w.before (f a)
+
+pub record OnTo (b : Base) (m : State) (w : Option Overwritten) (s t : Model) : Type 0 where
   pub like : Like b m t
   pub was : (a : ℕ) → word_at s.words a ≡ before w (word_at t.words) a
 
@@ -47,10 +51,9 @@ pub record Stays (b : Base) (m : State) (y : Status) (s t : Model) : Type 0 wher
   pub why : t.status ≡ y
 
 -- from a state to what its definition makes of it in a step
-abbrev pub After : Base → State → Went → Model → Model → Type 0
-After b m On s t = OnTo b m On s t
-After b m (Wrote p v) s t = OnTo b m (Wrote p v) s t
-After b m (Not y) s t = Stays b m (status_of y) s t
+abbrev pub After : Base → State → Result (Option Overwritten) Why → Model → Model → Type 0
+After b m (Ok w) s t = OnTo b m w s t
+After b m (Err y) s t = Stays b m (status_of y) s t
 
 -- the room for what goes out doesn't shrink, and a step takes up at most one place of it
 pub record Room (m m₁ : State) : Type 0 where

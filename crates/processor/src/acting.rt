@@ -1,13 +1,20 @@
 // The emulator as a processor: each act that the debugger may ask for.
+ghost use Rattle.std.specs.Prelude.{◌≡◌, ◌≤◌, MatchResult};
 ghost use Rattle.processor.specs.Holding.{Held, room_of};
 
 use crate::emulator::Emulator;
-use crate::making::{forget, make_room};
+use crate::making::make_room;
 use crate::telling::{tell_outs, tell_words};
 use command::breaks::Break;
 use command::code::Instr;
 use target::answers::{Came, Fault, Spot};
 use target::processor::Processor;
+
+fn slot_numbered(number: u64) -> Result<u8, Fault>
+    ensures { MatchResult result (λ slot. slot ≡ number) (λ fault. (fault ≡ Fault.NoSuchSlot) × (256 ≤ number)) }
+{
+    u8::try_from(number).map_err(|_| Fault::NoSuchSlot)
+}
 
 impl Processor for Emulator {
     ghost like = { λ e t. Held e t };
@@ -24,15 +31,12 @@ impl Processor for Emulator {
         self.fed.clear();
         self.state.restart();
         self.state.words.clear();
-        forget(self.slots.as_mut_slice());
+        self.slots.fill(None);
         Ok(())
     }
 
     fn feed(&mut self, more: &[u32]) -> Result<(), Fault> {
-        match self.fed.extend_from_slice(more) {
-            Ok(()) => Ok(()),
-            Err(_) => Err(Fault::NoMemory),
-        }
+        self.fed.extend_from_slice(more).or(Err(Fault::NoMemory))
     }
 
     fn goes(&mut self, n: u64, breaks: &[Break]) -> Result<Came, Fault> {
@@ -40,33 +44,25 @@ impl Processor for Emulator {
             return Err(Fault::TooManyBreaks);
         }
         let put = self.state.put;
-        match make_room(&mut self.state.log, put, n) {
-            Ok(()) => Ok(
-                self.state
-                    .goes(self.program.as_slice(), self.fed.as_slice(), breaks, n),
-            ),
-            Err(_) => Err(Fault::NoMemory),
-        }
+        make_room(&mut self.state.log, put, n)?;
+        Ok(
+            self.state
+                .goes(self.program.as_slice(), self.fed.as_slice(), breaks, n),
+        )
     }
 
     fn keep(&mut self, slot: u64) -> Result<(), Fault> {
-        if slot >= 256 {
-            return Err(Fault::NoSuchSlot);
-        }
-        self.state.words.keep(slot as usize);
+        let slot = slot_numbered(slot)?;
+        self.state.words.keep(slot);
         let kept = self.state.kept();
         self.slots[slot as usize] = Some(kept);
         Ok(())
     }
 
     fn take_up(&mut self, slot: u64) -> Result<(), Fault> {
-        if slot >= 256 {
-            return Err(Fault::NoSuchSlot);
-        }
-        let Some(kept) = self.slots[slot as usize] else {
-            return Err(Fault::EmptySlot);
-        };
-        self.state.words.take_up(slot as usize);
+        let slot = slot_numbered(slot)?;
+        let kept = self.slots[slot as usize].ok_or(Fault::EmptySlot)?;
+        self.state.words.take_up(slot);
         self.state.resume(kept);
         Ok(())
     }

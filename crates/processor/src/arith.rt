@@ -1,18 +1,20 @@
 // What the processor reckons: words as bits, masked and shifted.
-ghost use Rattle.std.specs.Prelude.{◌≡◌};
+ghost use Rattle.std.specs.Prelude.{◌≡◌, ◌≤◌, IfErr, MatchResult};
 ghost use Rattle.std.specs.Option.{option_to_list};
 ghost use Rattle.command.specs.Machine.{reckoned};
 ghost use Rattle.command.specs.Codes.{op_number};
-ghost use Rattle.processor.specs.Reckons.{reckon_reply, Numbered};
+ghost use Rattle.processor.specs.Reckons.{reckon_reply, refusal_number, refusal_of, Numbered};
 
 use command::code::Op;
 
-// What a reckoning comes to, or the number of the refusal.
-#[derive(Clone, Copy)]
-pub enum Reply {
-    Is(u64),
+// Why a reckoning by numbers comes to nothing.
+#[derive(Clone, Copy, Debug, PartialEq, Eq)]
+pub enum ReckonError {
+    NoSuchOp,
+    // A number is 2^32 or more.
+    TooLarge,
+    // A quotient or remainder by 0.
     ByZero,
-    Refused(u64),
 }
 
 // What it comes to; a quotient or a remainder by 0 is nothing.
@@ -23,18 +25,8 @@ pub(crate) fn apply(op: Op, a: u32, b: u32) -> Option<u32>
         Op::Sum => Some(a.wrapping_add(b)),
         Op::Difference => Some(a.wrapping_sub(b)),
         Op::Product => Some(a.wrapping_mul(b)),
-        Op::Quotient => {
-            if b == 0 {
-                return None;
-            }
-            Some(a / b)
-        }
-        Op::Remainder => {
-            if b == 0 {
-                return None;
-            }
-            Some(a % b)
-        }
+        Op::Quotient => a.checked_div(b),
+        Op::Remainder => a.checked_rem(b),
         Op::And => Some(a & b),
         Op::Or => Some(a | b),
         Op::Either => Some(a ^ b),
@@ -61,18 +53,18 @@ fn op_of(number: u64) -> Option<Op>
     }
 }
 
-// A reckoning by numbers: refused with 1 if there is no such operation, with 2 if a number is 2^32 or more.
-pub fn reckon(op: u64, a: u64, b: u64) -> Reply
-    ensures { result ≡ reckon_reply op a b }
+fn word_of(number: u64) -> Result<u32, ReckonError>
+    ensures { MatchResult result (λ word. word ≡ number) (λ e. (e ≡ ReckonError.TooLarge) × (4294967296 ≤ number)) }
 {
-    let Some(op) = op_of(op) else {
-        return Reply::Refused(1);
-    };
-    if a >= 4294967296 || b >= 4294967296 {
-        return Reply::Refused(2);
-    }
-    match apply(op, a as u32, b as u32) {
-        Some(v) => Reply::Is(u64::from(v)),
-        None => Reply::ByZero,
-    }
+    u32::try_from(number).map_err(|_| ReckonError::TooLarge)
+}
+
+// A reckoning by numbers.
+pub fn reckon(op: u64, a: u64, b: u64) -> Result<u64, ReckonError>
+    ensures reply { result ≡ reckon_reply op a b }
+    ensures refused { IfErr result (λ e. refusal_number e ≡ refusal_of op a b) }
+{
+    let op = op_of(op).ok_or(ReckonError::NoSuchOp)?;
+    let v = apply(op, word_of(a)?, word_of(b)?).ok_or(ReckonError::ByZero)?;
+    Ok(u64::from(v))
 }

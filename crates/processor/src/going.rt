@@ -7,7 +7,6 @@ ghost use Rattle.target.specs.Run.{going};
 ghost use Rattle.processor.specs.Like.{Base, Like, CameTo};
 
 use crate::state::State;
-use crate::steps::Went;
 use command::breaks::Break;
 use command::code::Instr;
 use target::answers::Came;
@@ -20,30 +19,27 @@ impl State {
         ensures came { (b : Base) (s : Model) → Like b self.old s → CameTo b self.new result (going n (codes program.now) fed.now (breaks_of breaks.now) s 0) }
         ensures room { vec_capacity self.old.log ≤ vec_capacity self.new.log }
     {
-        let mut by = 0;
-        while by < n {
-            let went = self.step(program, fed);
-            match went {
-                Went::Not(why) => {
+        for by in 0..n {
+            let wrote = match self.step(program, fed) {
+                Ok(wrote) => wrote,
+                Err(why) => {
                     return Came {
                         by,
                         hit: false,
                         why: Some(why),
                     };
                 }
-                _ => {}
-            }
-            by += 1;
-            if self.any_holds(breaks, went) {
+            };
+            if self.any_holds(breaks, wrote) {
                 return Came {
-                    by,
+                    by: by + 1,
                     hit: true,
                     why: None,
                 };
             }
         }
         Came {
-            by,
+            by: n,
             hit: false,
             why: None,
         }

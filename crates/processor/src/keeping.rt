@@ -10,14 +10,6 @@ use crate::store::PRESENT;
 use crate::words::Words;
 use std::alloc::{AllocError, Global};
 
-fn wipe(items: &mut [u32])
-    ensures { (a : ℕ) → slice_index items.new a ≡ 0 }
-{
-    for x in items.iter_mut() {
-        *x = 0;
-    }
-}
-
 // Each page that was written since it was kept goes into the store; the present row then has all the words.
 fn flush(items: &[u32], dirty: &[bool; 256], pages: &mut Pages)
     requires full { length items.now ≡ 65536 }
@@ -26,8 +18,8 @@ fn flush(items: &[u32], dirty: &[bool; 256], pages: &mut Pages)
     ensures present { (a : ℕ) → a < 65536 → held_word pages.new 256 a ≡ slice_index items.now a }
     ensures others { (row a : ℕ) → row < 256 → a < 65536 → held_word pages.new row a ≡ held_word pages.old row a }
 {
-    for p in 0..256 {
-        if dirty[p] {
+    for (p, written) in dirty.iter().enumerate() {
+        if *written {
             pages.store(items, p);
         }
     }
@@ -46,12 +38,12 @@ fn stale(dirty: &[bool; 256], pages: &Pages, slot: usize, p: usize) -> bool
 }
 
 // The words become the slot's.
-fn restore(items: &mut [u32], dirty: &[bool; 256], pages: &Pages, slot: usize)
-    requires slot { slot < 256 }
+fn restore(items: &mut [u32], dirty: &[bool; 256], pages: &Pages, slot: u8)
     requires full { length items.old ≡ 65536 }
     requires clean { Clean items.old dirty.now pages.now.cells.items pages.now.tables.items }
     ensures { (a : ℕ) → a < 65536 → slice_index items.new a ≡ held_word pages.now slot a }
 {
+    let slot = slot as usize;
     for p in 0..256 {
         if stale(dirty, pages, slot, p) {
             let page = pages.tables[slot * 256 + p] as usize;
@@ -76,30 +68,28 @@ impl Words {
     pub(crate) fn clear(&mut self)
         ensures { (a : ℕ) → slice_index self.new.items.items a ≡ 0 }
     {
-        wipe(self.items.as_mut_slice());
+        self.items.fill(0);
         self.dirty = [true; 256];
     }
 
     // Keeps the words in a slot's row.
-    pub(crate) fn keep(&mut self, slot: usize)
-        requires { slot < 256 }
+    pub(crate) fn keep(&mut self, slot: u8)
         ensures same { self.new.items.items ≡ self.old.items.items }
         ensures kept { (row a : ℕ) → row < 256 → a < 65536 → held_word self.new.pages row a ≡ pick (row == slot) (slice_index self.old.items.items a) (held_word self.old.pages row a) }
     {
         self.pages.make_room();
         flush(self.items.as_slice(), &self.dirty, &mut self.pages);
-        self.pages.copy_row(slot, PRESENT);
+        self.pages.copy_row(slot as usize, PRESENT);
         self.dirty = [false; 256];
     }
 
     // Takes up the words of a slot's row.
-    pub(crate) fn take_up(&mut self, slot: usize)
-        requires { slot < 256 }
+    pub(crate) fn take_up(&mut self, slot: u8)
         ensures taken { (a : ℕ) → a < 65536 → slice_index self.new.items.items a ≡ held_word self.old.pages slot a }
         ensures rows { (row a : ℕ) → row < 256 → a < 65536 → held_word self.new.pages row a ≡ held_word self.old.pages row a }
     {
         restore(self.items.as_mut_slice(), &self.dirty, &self.pages, slot);
-        self.pages.copy_row(PRESENT, slot);
+        self.pages.copy_row(PRESENT, slot as usize);
         self.dirty = [false; 256];
     }
 }

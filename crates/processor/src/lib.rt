@@ -3,6 +3,7 @@
 
 pub mod acting;
 pub mod arith;
+mod checks;
 mod copying;
 pub mod emulator;
 mod going;

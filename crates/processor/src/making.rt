@@ -1,4 +1,4 @@
-// An emulator made, with all its room, and its slots emptied.
+// An emulator made, with all its room.
 ghost use Rattle.std.specs.Prelude.{◌≡◌, ℕ, ◌+◌, ◌<◌, ◌≤◌, [], IfOk, None, vec_len, vec_capacity, MatchResult, slice_index_or};
 ghost use Rattle.command.specs.Machine.{at_start};
 ghost use Rattle.target.specs.Run.{fresh_target};
@@ -6,45 +6,20 @@ ghost use Rattle.processor.specs.Like.{Like};
 ghost use Rattle.processor.specs.Holding.{Held, room_of};
 
 use crate::emulator::Emulator;
-use crate::kept::Kept;
 use crate::state::State;
 use crate::words::Words;
 use std::alloc::{AllocError, Global};
-
-fn empty_slots(heap: Global) -> Result<Vec<Option<Kept>>, AllocError>
-    ensures { IfOk result (λ v. (vec_len v ≡ 256) × ((k : ℕ) → slice_index_or v.items k None ≡ None)) }
-{
-    let mut slots = Vec::new(heap);
-    for _i in 0..256usize {
-        slots.push(None)?;
-    }
-    Ok(slots)
-}
+use target::answers::Fault;
 
 // Room in the log for `n` numbers behind the first `put`, taken now, so that going on need not ask for it.
-pub(crate) fn make_room(log: &mut Vec<u32>, put: usize, n: u64) -> Result<(), AllocError>
-    ensures room { MatchResult result (λ _. put + n ≤ vec_capacity log.new) (λ _. vec_capacity log.new < put + n) }
+pub(crate) fn make_room(log: &mut Vec<u32>, put: usize, n: u64) -> Result<(), Fault>
+    ensures room { MatchResult result (λ _. put + n ≤ vec_capacity log.new) (λ fault. (fault ≡ Fault.NoMemory) × (vec_capacity log.new < put + n)) }
     ensures grows { vec_capacity log.old ≤ vec_capacity log.new }
     ensures items { log.new.items ≡ log.old.items }
 {
-    let Some(wanted) = put.checked_add(n as usize) else {
-        return Err(AllocError);
-    };
+    let wanted = put.checked_add(n as usize).ok_or(Fault::NoMemory)?;
     let more = wanted.saturating_sub(log.len());
-    let _ = log.reserve(more);
-    if log.capacity() < wanted {
-        return Err(AllocError);
-    }
-    Ok(())
-}
-
-// Nothing is kept in any slot.
-pub(crate) fn forget(slots: &mut [Option<Kept>])
-    ensures { (k : ℕ) → slice_index_or slots.new k None ≡ None }
-{
-    for slot in slots.iter_mut() {
-        *slot = None;
-    }
+    log.reserve(more).map_err(|_| Fault::NoMemory)
 }
 
 impl State {
@@ -72,7 +47,7 @@ impl Emulator {
         let program = Vec::with_capacity(heap, 4096)?;
         let fed = Vec::with_capacity(heap, 65536)?;
         let state = State::start(heap)?;
-        let slots = empty_slots(heap)?;
+        let slots = vec![in heap; None; 256]?;
         Ok(Emulator {
             program,
             fed,

@@ -1,21 +1,22 @@
 // One step of the processor: a method for each instruction that does more than set a field.
-ghost use Rattle.std.specs.Prelude.{◌≡◌, ℕ, ◌<◌, ◌≤◌, List, [], ◌∷◌, ◌++◌, length, vec_capacity};
+ghost use Rattle.std.specs.Prelude.{◌≡◌, ℕ, ◌<◌, ◌≤◌, List, [], ◌∷◌, ◌++◌, None, length, vec_capacity};
 ghost use Rattle.command.specs.Machine.{State as Model, does as made_of, step as stepped, compared, reckon, read, write, jump_if, call, return, take_in, put_out, with_reg};
 ghost use Rattle.command.specs.Codes.{code, codes, op_number, comparison_number};
-ghost use Rattle.processor.specs.Like.{Base, Like, After, OnTo, Room, laid};
+ghost use Rattle.processor.specs.Like.{Base, Like, Ready, After, OnTo, Room, laid};
 
-use crate::arith::apply;
 use crate::state::State;
 use command::code::{Comparison, Instr, Op, Reg};
 use target::answers::Why;
 
-// What came of a step: it went on, perhaps writing a word, which held the second number before, so that whether the word changed costs no second look; or why not.
+// A word that a step wrote, and what it held before, so that whether it changed costs no second look.
 #[derive(Clone, Copy)]
-pub(crate) enum Went {
-    On,
-    Wrote(usize, u32),
-    Not(Why),
+pub(crate) struct Overwritten {
+    pub(crate) place: usize,
+    pub(crate) before: u32,
 }
+
+// What came of a step: it went on, perhaps writing a word; or why not.
+pub(crate) type Went = Result<Option<Overwritten>, Why>;
 
 pub(crate) fn compare(comparison: Comparison, a: u32, b: u32) -> bool
     ensures { result ≡ compared (comparison_number comparison) a b }
@@ -42,66 +43,48 @@ fn lay(log: &mut Vec<u32>, put: usize, v: u32)
     }
 }
 
+// `next` is the place that follows.
 impl State {
-    fn with_reg(&mut self, k: Reg, v: u32)
-        requires { self.old.at < 4096 }
-        ensures on { (b : Base) (s : Model) → Like b self.old s → OnTo b self.new Went.On s (with_reg s k.number v) }
+    fn with_reg(&mut self, next: u32, k: Reg, v: u32)
+        ensures on { (b : Base) (s : Model) → Ready b self.old next s → OnTo b self.new None s (with_reg s k.number v) }
         ensures room { Room self.old self.new }
     {
         self.regs[k.number as usize] = v;
-        self.at += 1;
+        self.at = next;
     }
 
-    fn reckons(&mut self, op: Op, k: Reg, j: Reg) -> Went
-        requires { self.old.at < 4096 }
-        ensures after { (b : Base) (s : Model) (ins : List ℕ) → Like b self.old s → After b self.new result s (made_of s ins (reckon (op_number op) k.number j.number)) }
+    fn reckons(&mut self, next: u32, op: Op, k: Reg, j: Reg) -> Went
+        ensures after { (b : Base) (s : Model) (ins : List ℕ) → Ready b self.old next s → After b self.new result s (made_of s ins (reckon (op_number op) k.number j.number)) }
         ensures room { Room self.old self.new }
     {
-        match apply(
-            op,
-            self.regs[k.number as usize],
-            self.regs[j.number as usize],
-        ) {
-            Some(v) => {
-                self.with_reg(k, v);
-                Went::On
-            }
-            None => Went::Not(Why::ByZero),
-        }
+        let v = self.reckoned(op, k, j)?;
+        self.with_reg(next, k, v);
+        Ok(None)
     }
 
-    fn reads(&mut self, k: Reg, from: Reg, n: u16) -> Went
-        requires { self.old.at < 4096 }
-        ensures after { (b : Base) (s : Model) (ins : List ℕ) → Like b self.old s → After b self.new result s (made_of s ins (read k.number from.number n)) }
+    fn reads(&mut self, next: u32, k: Reg, from: Reg, n: u16) -> Went
+        ensures after { (b : Base) (s : Model) (ins : List ℕ) → Ready b self.old next s → After b self.new result s (made_of s ins (read k.number from.number n)) }
         ensures room { Room self.old self.new }
     {
-        let a = self.regs[from.number as usize] as usize + n as usize;
-        if a >= 65536 {
-            return Went::Not(Why::NoWord);
-        }
+        let a = self.word_place(from, n)?;
         let v = self.words.get(a);
-        self.with_reg(k, v);
-        Went::On
+        self.with_reg(next, k, v);
+        Ok(None)
     }
 
-    fn writes(&mut self, k: Reg, to: Reg, n: u16) -> Went
-        requires { self.old.at < 4096 }
-        ensures after { (b : Base) (s : Model) (ins : List ℕ) → Like b self.old s → After b self.new result s (made_of s ins (write k.number to.number n)) }
+    fn writes(&mut self, next: u32, k: Reg, to: Reg, n: u16) -> Went
+        ensures after { (b : Base) (s : Model) (ins : List ℕ) → Ready b self.old next s → After b self.new result s (made_of s ins (write k.number to.number n)) }
         ensures room { Room self.old self.new }
     {
-        let a = self.regs[to.number as usize] as usize + n as usize;
-        if a >= 65536 {
-            return Went::Not(Why::NoWord);
-        }
-        let old = self.words.get(a);
-        self.words.put(a, self.regs[k.number as usize]);
-        self.at += 1;
-        Went::Wrote(a, old)
+        let place = self.word_place(to, n)?;
+        let before = self.words.get(place);
+        self.words.put(place, self.regs[k.number as usize]);
+        self.at = next;
+        Ok(Some(Overwritten { place, before }))
     }
 
-    fn jumps_if(&mut self, comparison: Comparison, k: Reg, j: Reg, n: u16) -> Went
-        requires { self.old.at < 4096 }
-        ensures after { (b : Base) (s : Model) (ins : List ℕ) → Like b self.old s → After b self.new result s (made_of s ins (jump_if (comparison_number comparison) k.number j.number n)) }
+    fn jumps_if(&mut self, next: u32, comparison: Comparison, k: Reg, j: Reg, n: u16) -> Went
+        ensures after { (b : Base) (s : Model) (ins : List ℕ) → Ready b self.old next s → After b self.new result s (made_of s ins (jump_if (comparison_number comparison) k.number j.number n)) }
         ensures room { Room self.old self.new }
     {
         if compare(
@@ -111,98 +94,84 @@ impl State {
         ) {
             self.at = n as u32;
         } else {
-            self.at += 1;
+            self.at = next;
         }
-        Went::On
+        Ok(None)
     }
 
-    fn calls(&mut self, k: u16) -> Went
-        requires { self.old.at < 4096 }
-        ensures after { (b : Base) (s : Model) (ins : List ℕ) → Like b self.old s → After b self.new result s (made_of s ins (call k)) }
+    fn calls(&mut self, next: u32, k: u16) -> Went
+        ensures after { (b : Base) (s : Model) (ins : List ℕ) → Ready b self.old next s → After b self.new result s (made_of s ins (call k)) }
         ensures room { Room self.old self.new }
     {
-        let top = self.regs[15];
-        if top == 0 || top > 65536 {
-            return Went::Not(Why::NoWord);
-        }
-        let a = top as usize - 1;
-        let old = self.words.get(a);
-        self.words.put(a, self.at + 1);
-        self.regs[15] = top - 1;
+        let place = self.call_place()?;
+        let before = self.words.get(place);
+        self.words.put(place, next);
+        self.regs[15] = place as u32;
         self.at = k as u32;
-        Went::Wrote(a, old)
+        Ok(Some(Overwritten { place, before }))
     }
 
     fn returns(&mut self) -> Went
         ensures after { (b : Base) (s : Model) (ins : List ℕ) → Like b self.old s → After b self.new result s (made_of s ins (return)) }
         ensures room { Room self.old self.new }
     {
-        let a = self.regs[15];
-        if a >= 65536 {
-            return Went::Not(Why::NoWord);
-        }
-        self.at = self.words.get(a as usize);
-        self.regs[15] = a + 1;
-        Went::On
+        let a = self.return_place()?;
+        self.at = self.words.get(a);
+        self.regs[15] = a as u32 + 1;
+        Ok(None)
     }
 
-    fn takes_in(&mut self, k: Reg, fed: &[u32]) -> Went
-        requires { self.old.at < 4096 }
-        ensures after { (b : Base) (s : Model) → Like b self.old s → After b self.new result s (made_of s fed.now (take_in k.number)) }
+    fn takes_in(&mut self, next: u32, k: Reg, fed: &[u32]) -> Went
+        ensures after { (b : Base) (s : Model) → Ready b self.old next s → After b self.new result s (made_of s fed.now (take_in k.number)) }
         ensures room { Room self.old self.new }
     {
-        if self.taken >= fed.len() {
-            return Went::Not(Why::Waits);
-        }
-        let v = fed[self.taken];
+        let v = self.incoming(fed)?;
         self.taken += 1;
         self.regs[k.number as usize] = v;
-        self.at += 1;
-        Went::On
+        self.at = next;
+        Ok(None)
     }
 
-    fn puts_out(&mut self, k: Reg) -> Went
-        requires place { self.old.at < 4096 }
+    fn puts_out(&mut self, next: u32, k: Reg) -> Went
         requires room { self.old.put < vec_capacity self.old.log }
-        ensures after { (b : Base) (s : Model) (ins : List ℕ) → Like b self.old s → After b self.new result s (made_of s ins (put_out k.number)) }
+        ensures after { (b : Base) (s : Model) (ins : List ℕ) → Ready b self.old next s → After b self.new result s (made_of s ins (put_out k.number)) }
         ensures room { Room self.old self.new }
     {
         let v = self.regs[k.number as usize];
         lay(&mut self.log, self.put, v);
         self.put += 1;
-        self.at += 1;
-        Went::On
+        self.at = next;
+        Ok(None)
     }
 
-    fn does(&mut self, i: Instr, fed: &[u32]) -> Went
-        requires place { self.old.at < 4096 }
+    fn does(&mut self, next: u32, i: Instr, fed: &[u32]) -> Went
         requires room { self.old.put < vec_capacity self.old.log }
-        ensures after { (b : Base) (s : Model) → Like b self.old s → After b self.new result s (made_of s fed.now (code i)) }
+        ensures after { (b : Base) (s : Model) → Ready b self.old next s → After b self.new result s (made_of s fed.now (code i)) }
         ensures room { Room self.old self.new }
     {
         match i {
             Instr::Load(k, n) => {
-                self.with_reg(k, n);
-                Went::On
+                self.with_reg(next, k, n);
+                Ok(None)
             }
             Instr::Copied(k, j) => {
                 let v = self.regs[j.number as usize];
-                self.with_reg(k, v);
-                Went::On
+                self.with_reg(next, k, v);
+                Ok(None)
             }
-            Instr::Reckon(op, k, j) => self.reckons(op, k, j),
-            Instr::Read(k, from, n) => self.reads(k, from, n),
-            Instr::Write(k, to, n) => self.writes(k, to, n),
+            Instr::Reckon(op, k, j) => self.reckons(next, op, k, j),
+            Instr::Read(k, from, n) => self.reads(next, k, from, n),
+            Instr::Write(k, to, n) => self.writes(next, k, to, n),
             Instr::Jump(n) => {
                 self.at = n as u32;
-                Went::On
+                Ok(None)
             }
-            Instr::JumpIf(comparison, k, j, n) => self.jumps_if(comparison, k, j, n),
-            Instr::Call(n) => self.calls(n),
+            Instr::JumpIf(comparison, k, j, n) => self.jumps_if(next, comparison, k, j, n),
+            Instr::Call(n) => self.calls(next, n),
             Instr::Return => self.returns(),
-            Instr::In(k) => self.takes_in(k, fed),
-            Instr::Out(k) => self.puts_out(k),
-            Instr::Halt => Went::Not(Why::Halted),
+            Instr::In(k) => self.takes_in(next, k, fed),
+            Instr::Out(k) => self.puts_out(next, k),
+            Instr::Halt => Err(Why::Halted),
         }
     }
 
@@ -212,11 +181,7 @@ impl State {
         ensures after { (b : Base) (s : Model) → Like b self.old s → After b self.new result s (stepped (codes program.now) fed.now s) }
         ensures room { Room self.old self.new }
     {
-        let at = self.at as usize;
-        if at >= program.len() {
-            return Went::Not(Why::NoInstr);
-        }
-        let i = program[at];
-        self.does(i, fed)
+        let i = self.instr(program)?;
+        self.does(self.at + 1, i, fed)
     }
 }

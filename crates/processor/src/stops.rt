@@ -6,7 +6,7 @@ ghost use Rattle.command.specs.Breaks.{test_of, tests_of, break_of, breaks_of};
 ghost use Rattle.processor.specs.Like.{Base, Like, OnTo};
 
 use crate::state::State;
-use crate::steps::{Went, compare};
+use crate::steps::{Overwritten, compare};
 use command::breaks::{Break, Subject, Test};
 
 impl State {
@@ -23,29 +23,25 @@ impl State {
     fn all_pass(&self, stop: &Break) -> bool
         ensures { (b : Base) (s : Model) → Like b self.now s → result ≡ every (test_holds s) (tests_of stop.now) }
     {
-        for i in 0..stop.count as usize {
-            let t = stop.tests[i];
-            if !self.passes(t) {
-                return false;
-            }
-        }
-        true
+        stop.tests[..stop.count as usize]
+            .iter()
+            .all(|t| self.passes(*t))
     }
 
     // Did the step that came to this change the word?
-    fn changed(&self, a: usize, went: Went) -> bool
+    fn changed(&self, a: usize, wrote: Option<Overwritten>) -> bool
         requires { a < 65536 }
-        ensures { (b : Base) (s t : Model) → OnTo b self.now went s t → result ≡ not (word_at s.words a == word_at t.words a) }
+        ensures { (b : Base) (s t : Model) → OnTo b self.now wrote s t → result ≡ not (word_at s.words a == word_at t.words a) }
     {
-        match went {
-            Went::Wrote(p, old) => p == a && old != self.words.get(a),
-            _ => false,
+        match wrote {
+            Some(word) => word.place == a && word.before != self.words.get(a),
+            None => false,
         }
     }
 
     // The tests come last, as they cost most.
-    fn holds(&self, stop: &Break, went: Went) -> bool
-        ensures { (b : Base) (s t : Model) → OnTo b self.now went s t → result ≡ held_by s t (break_of stop.now) }
+    fn holds(&self, stop: &Break, wrote: Option<Overwritten>) -> bool
+        ensures { (b : Base) (s t : Model) → OnTo b self.now wrote s t → result ≡ held_by s t (break_of stop.now) }
     {
         if let Some(p) = stop.place {
             if self.at != p as u32 {
@@ -53,21 +49,16 @@ impl State {
             }
         }
         if let Some(a) = stop.changed {
-            if !self.changed(a as usize, went) {
+            if !self.changed(a as usize, wrote) {
                 return false;
             }
         }
         self.all_pass(stop)
     }
 
-    pub(crate) fn any_holds(&self, breaks: &[Break], went: Went) -> bool
-        ensures { (b : Base) (s t : Model) → OnTo b self.now went s t → result ≡ any (held_by s t) (breaks_of breaks.now) }
+    pub(crate) fn any_holds(&self, breaks: &[Break], wrote: Option<Overwritten>) -> bool
+        ensures { (b : Base) (s t : Model) → OnTo b self.now wrote s t → result ≡ any (held_by s t) (breaks_of breaks.now) }
     {
-        for stop in breaks {
-            if self.holds(stop, went) {
-                return true;
-            }
-        }
-        false
+        breaks.iter().any(|stop| self.holds(stop, wrote))
     }
 }

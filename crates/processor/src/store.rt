@@ -3,7 +3,7 @@ ghost use Rattle.std.specs.Prelude.{◌≡◌, ℕ, ◌+◌, ◌*◌, ◌/◌, �
 ghost use Rattle.command.specs.Machine.{pick};
 ghost use Rattle.processor.specs.Pages.{Inside, page_word, marked, Gathered, Stored};
 
-use crate::copying::{copy_page, copy_within};
+use crate::copying::copy_page;
 use crate::pages::Pages;
 use std::alloc::{AllocError, Global};
 
@@ -20,11 +20,9 @@ fn mark(tables: &[u32], used: &mut [bool])
     ensures few { marked used.new ≤ 65792 }
     ensures all { (i : ℕ) → i < 65792 → slice_index_or used.new (slice_index tables.now i) false ≡ true }
 {
-    for u in used.iter_mut() {
-        *u = false;
-    }
-    for i in 0..tables.len() {
-        used[tables[i] as usize] = true;
+    used.fill(false);
+    for page in tables {
+        used[*page as usize] = true;
     }
 }
 
@@ -38,10 +36,10 @@ fn gather(used: &[bool], free: &mut Vec<u32>)
     ensures gathered { Gathered used.now 73728 free.new.items }
 {
     free.clear();
-    for k in 0..73728u32 {
-        if !used[k as usize] {
+    for (page, named) in used.iter().enumerate() {
+        if !*named {
             // There is room for every page.
-            let _ = free.push(k);
+            let _ = free.push(page as u32);
         }
     }
 }
@@ -99,6 +97,7 @@ impl Pages {
         ensures cells { self.new.cells.items ≡ self.old.cells.items }
         ensures rows { (j a : ℕ) → a < 65536 → page_word self.new.cells.items self.new.tables.items j a ≡ pick (j == to) (page_word self.old.cells.items self.old.tables.items from a) (page_word self.old.cells.items self.old.tables.items j a) }
     {
-        copy_within(self.tables.as_mut_slice(), to, from);
+        self.tables
+            .copy_within(from * 256..from * 256 + 256, to * 256);
     }
 }

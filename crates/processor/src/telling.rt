@@ -5,11 +5,7 @@ ghost use Rattle.processor.specs.Telling.{told_outs};
 fn word_or_zero(items: &[u32], a: u64) -> u64
     ensures { result ≡ slice_index items.now a }
 {
-    if a < items.len() as u64 {
-        u64::from(items[a as usize])
-    } else {
-        0
-    }
+    items.get(a as usize).map_or(0, |word| u64::from(*word))
 }
 
 // The words from there on; past the last they are 0.
@@ -17,8 +13,8 @@ pub(crate) fn tell_words(items: &[u32], from: u64, seen: &mut [u64])
     requires { length items.now ≡ 65536 }
     ensures { (i : ℕ) → i < length seen.new → slice_index seen.new i ≡ slice_index items.now (from + i) }
 {
-    for i in 0..seen.len() {
-        seen[i] = word_or_zero(items, from.saturating_add(i as u64));
+    for (i, word) in seen.iter_mut().enumerate() {
+        *word = word_or_zero(items, from.saturating_add(i as u64));
     }
 }
 
@@ -27,11 +23,11 @@ pub(crate) fn tell_outs(log: &[u32], put: usize, from: u64, seen: &mut [u64]) ->
     ensures count { result ≡ length (told_outs log.now put from (length seen.old)) }
     ensures row { seen.new ≡ told_outs log.now put from (length seen.old) ++ drop result seen.old }
 {
-    let there = put.min(log.len());
-    let from = from as usize;
-    let count = there.saturating_sub(from).min(seen.len());
-    for i in 0..count {
-        seen[i] = u64::from(log[from + i]);
+    let out = &log[..put.min(log.len())];
+    let rest = &out[(from as usize).min(out.len())..];
+    let told = &rest[..seen.len().min(rest.len())];
+    for (i, number) in told.iter().enumerate() {
+        seen[i] = u64::from(*number);
     }
-    count
+    told.len()
 }

@@ -1,16 +1,9 @@
-use Rattle.std.proofs.Common.{◌≡◌, ◌+◌, ◌-◌, ◌%◌, arith}
+use Rattle.std.proofs.Common.{◌≡◌, ℕ, ◌+◌, ◌-◌, ◌/◌, ◌%◌, ◌<◌, eqb, [], ◌∷◌, Some, None, SomeIff, Option, ap, arith}
 use Rattle.std.proofs.lemmas.Bool.{eq-eqb, ne_eqb}
-use Rattle.command.specs.Machine.{reckoned, whole}
+use Rattle.std.specs.Option.{option_to_list}
+use Rattle.command.specs.Machine.{pick, reckoned, whole}
 use Rattle.command.proofs.Reckons.{and_bits, or_bits, xor_bits, twice_shifts, halved_shifts}
 use Rattle.processor.proofs.arith.apply.Goals as goal
-
-pub returns-then-b-eq0 : goal.returns-then-b-eq0
-unfolding reckoned
-returns-then-b-eq0 c = simp (c.in-Quotient.is, eq-eqb _ _ c.if-b-eq0.true)
-
-pub returns-then-b-eq0-2 : goal.returns-then-b-eq0-2
-unfolding reckoned
-returns-then-b-eq0-2 c = simp (c.in-Remainder.is, eq-eqb _ _ c.if-b-eq0-2.true)
 
 pub returns-in-Sum : goal.returns-in-Sum
 unfolding reckoned
@@ -25,13 +18,18 @@ pub returns-in-Product : goal.returns-in-Product
 unfolding reckoned
 returns-in-Product c = simp c.in-Product.is
 
-pub returns-else-b-eq0 : goal.returns-else-b-eq0
-unfolding reckoned
-returns-else-b-eq0 c = simp (c.in-Quotient.is, ne_eqb _ _ c.if-b-eq0.false)
+-- nothing where the second is 0, as the library's divisions have it
+divides : (r : Option ℕ) (b q : ℕ) → SomeIff r (0 < b) q → option_to_list r ≡ pick (eqb b 0) [] (q ∷ [])
+divides None b q h = let e : b ≡ 0 = omega arith in simp (eq-eqb b 0 e)
+divides (Some x) b q h = let e : b ≡ 0 → ⊥ = λ p. (let r = p in omega (arith, h.0)) in simp (ne_eqb b 0 e) (ap (λ z. z ∷ []) h.1)
 
-pub returns-else-b-eq0-2 : goal.returns-else-b-eq0-2
+pub returns-in-Quotient : goal.returns-in-Quotient
 unfolding reckoned
-returns-else-b-eq0-2 c = simp (c.in-Remainder.is, ne_eqb _ _ c.if-b-eq0-2.false)
+returns-in-Quotient c = simp c.in-Quotient.is (divides c.checked_div.result c.args.b (c.args.a / c.args.b) c.checked_div.ensures)
+
+pub returns-in-Remainder : goal.returns-in-Remainder
+unfolding reckoned
+returns-in-Remainder c = simp c.in-Remainder.is (divides c.checked_rem.result c.args.b (c.args.a % c.args.b) c.checked_rem.ensures)
 
 pub returns-in-And : goal.returns-in-And
 unfolding reckoned

@@ -1,40 +1,74 @@
-use Rattle.std.proofs.Common.{◌≡◌, ℕ, ◌<◌, ◌≤◌, ◌⊎◌, List, [], ◌∷◌, sym, ap, inl, inr, arith}
+use Rattle.std.proofs.Common.{◌≡◌, ℕ, ◌<◌, ◌≤◌, ◌⊎◌, [], ◌∷◌, Ok, Err, IfErr, Result, sym, ap, ◌∙◌, subst, inl, inr, arith}
 use Rattle.std.proofs.lemmas.Bool.{lt-ltb, le-ltb}
+use Rattle.std.specs.Option.{option_to_list}
 use Rattle.command.specs.Machine.{reckoned}
-use Rattle.processor.specs.Reckons.{reckon_reply, reply_of}
-use Rattle.processor.specs.declared.arith.Reply.TheVariants.{Refused}
 use Rattle.command.specs.Codes.{op_number}
+use Rattle.processor.specs.Reckons.{reckon_reply, reply_of, refusal_number, refusal_of, Numbered}
+use Rattle.processor.specs.declared.arith.ReckonError.{ReckonError}
+use Rattle.processor.specs.declared.arith.ReckonError.TheVariants.{NoSuchOp, TooLarge, ByZero}
 use Rattle.processor.proofs.Ops.{op_below}
+use Rattle.processor.proofs.Faults.{refused, none_fault}
 use Rattle.processor.proofs.arith.reckon.Goals as goal
 
--- where the numbers are allowed, the reply is what was reckoned
-allowed : (k a b : ℕ) (r : List ℕ) → k < 10 → a < 4294967296 → b < 4294967296 → r ≡ reckoned k a b → reply_of r ≡ reckon_reply k a b
-unfolding reckon_reply
-allowed k a b r hk ha hb e = simp (lt-ltb k 10 hk, lt-ltb a _ ha, lt-ltb b _ hb) (ap reply_of e)
+abbrev Replies : (k a b : ℕ) → Result ℕ ReckonError → Type 0
+Replies k a b r = (r ≡ reckon_reply k a b) × IfErr r (λ e. refusal_number e ≡ refusal_of k a b)
 
-too_large : (k a b : ℕ) → k < 10 → (4294967296 ≤ a) ⊎ ((a < 4294967296) × (4294967296 ≤ b)) → Refused 2 ≡ reckon_reply k a b
-unfolding reckon_reply
-too_large k a b hk (inl h) = simp (lt-ltb k 10 hk, le-ltb a _ h)
-too_large k a b hk (inr h) = simp (lt-ltb k 10 hk, lt-ltb a _ h.0, le-ltb b _ h.1)
+no_op : (k a b : ℕ) → 10 ≤ k → Replies k a b (Err NoSuchOp)
+unfolding reckon_reply refusal_of
+no_op k a b h = (simp (le-ltb k 10 h), simp (le-ltb k 10 h))
 
-pub returns-in_default : goal.returns-in_default
-unfolding reckon_reply
-returns-in_default c = simp (le-ltb c.args.op 10 c.in_default.ensures)
+too_large : (k a b : ℕ) → k < 10 → (4294967296 ≤ a) ⊎ ((a < 4294967296) × (4294967296 ≤ b)) → Replies k a b (Err TooLarge)
+unfolding reckon_reply refusal_of
+too_large k a b hk (inl h) = (simp (lt-ltb k 10 hk, le-ltb a _ h), simp (lt-ltb k 10 hk, le-ltb a _ h))
+too_large k a b hk (inr h) = (simp (lt-ltb k 10 hk, lt-ltb a _ h.0, le-ltb b _ h.1), simp (lt-ltb k 10 hk, lt-ltb a _ h.0, le-ltb b _ h.1))
 
-pub returns-then-a-ge4294967296 : goal.returns-then-a-ge4294967296
-returns-then-a-ge4294967296 c =
-    too_large c.args.op c.args.a c.args.b (omega (arith, op_below c.in-Some.op, c.in-Some.ensures)) c.then-a-ge4294967296.either
+by_zero : (k a b : ℕ) → k < 10 → a < 4294967296 → b < 4294967296 → [] ≡ reckoned k a b → Replies k a b (Err ByZero)
+unfolding reckon_reply refusal_of reply_of
+by_zero k a b hk ha hb e = (simp (lt-ltb k 10 hk, lt-ltb a _ ha, lt-ltb b _ hb) (ap reply_of e), simp (lt-ltb k 10 hk, lt-ltb a _ ha, lt-ltb b _ hb))
 
-pub returns-in-Some-apply : goal.returns-in-Some-apply
-unfolding reply_of
-returns-in-Some-apply c =
-    let e = c.in-Some.ensures in
-    simp (c.from.ensures, sym e)
-    (allowed (op_number c.in-Some.op) c.args.a c.args.b (c.in-Some-apply.v ∷ []) (op_below c.in-Some.op) (omega arith) (omega arith) c.in-Some-apply.ensures)
+comes_to : (k a b v : ℕ) → k < 10 → a < 4294967296 → b < 4294967296 → v ∷ [] ≡ reckoned k a b → Ok v ≡ reckon_reply k a b
+unfolding reckon_reply reply_of
+comes_to k a b v hk ha hb e = simp (lt-ltb k 10 hk, lt-ltb a _ ha, lt-ltb b _ hb) (ap reply_of e)
 
-pub returns-in-None : goal.returns-in-None
-unfolding reply_of
-returns-in-None c =
-    let e = c.in-Some.ensures in
-    simp (sym e)
-    (allowed (op_number c.in-Some.op) c.args.a c.args.b [] (op_below c.in-Some.op) (omega arith) (omega arith) c.in-None.ensures)
+pub returns-in_err-op : goal.returns-in_err-op
+returns-in_err-op c =
+    let h = none_fault c.op_of.result _ _ (sym c.in_err-op.ensures.value) in
+    let big = subst (Numbered c.args.op) h.0 c.op_of.ensures in
+    let r = refused c.from_residual.result _ _ (Replies c.args.op c.args.a c.args.b) h.1 c.from_residual.ensures.1 (no_op c.args.op c.args.a c.args.b big) in
+    record { reply = r.0; refused = r.1 }
+
+pub returns-in_err-word_of : goal.returns-in_err-word_of
+returns-in_err-word_of c =
+    let q : op_number c.in_ok-op.op ≡ c.args.op = subst (Numbered c.args.op) c.in_ok-op.ensures.ok_part c.op_of.ensures in
+    let few : c.args.op < 10 = omega (arith, op_below c.in_ok-op.op) in
+    let h = c.in_err-word_of.ensures in
+    let r = refused c.from_residual-in_err-word_of.result _ _ (Replies c.args.op c.args.a c.args.b) h.0 c.from_residual-in_err-word_of.ensures.1
+    (too_large c.args.op c.args.a c.args.b few (inl h.1)) in
+    record { reply = r.0; refused = r.1 }
+
+pub returns-in_err-word_of-2 : goal.returns-in_err-word_of-2
+returns-in_err-word_of-2 c =
+    let q : op_number c.in_ok-op.op ≡ c.args.op = subst (Numbered c.args.op) c.in_ok-op.ensures.ok_part c.op_of.ensures in
+    let few : c.args.op < 10 = omega (arith, op_below c.in_ok-op.op) in
+    let small : c.args.a < 4294967296 = omega (arith, c.in_ok-word_of.ensures) in
+    let h = c.in_err-word_of-2.ensures in
+    let r = refused c.from_residual-in_err-word_of-2.result _ _ (Replies c.args.op c.args.a c.args.b) h.0 c.from_residual-in_err-word_of-2.ensures.1
+    (too_large c.args.op c.args.a c.args.b few (inr (small, h.1))) in
+    record { reply = r.0; refused = r.1 }
+
+pub returns-in_err-v : goal.returns-in_err-v
+returns-in_err-v c =
+    let q : op_number c.in_ok-op.op ≡ c.args.op = subst (Numbered c.args.op) c.in_ok-op.ensures.ok_part c.op_of.ensures in
+    let h = none_fault c.apply.result _ _ (sym c.in_err-v.ensures.value) in
+    let e = sym (ap option_to_list h.0) ∙ c.apply.ensures in
+    let t = by_zero (op_number c.in_ok-op.op) c.in_ok-word_of.field-0 c.in_ok-word_of-2.field-0 (op_below c.in_ok-op.op) (omega arith) (omega arith) e in
+    let r = refused c.from_residual-in_err-v.result _ _ (Replies c.args.op c.args.a c.args.b) h.1 c.from_residual-in_err-v.ensures.1
+    (rw (q, c.in_ok-word_of.ensures, c.in_ok-word_of-2.ensures) at t) in
+    record { reply = r.0; refused = r.1 }
+
+pub returns : goal.returns
+returns c =
+    let q : op_number c.in_ok-op.op ≡ c.args.op = subst (Numbered c.args.op) c.in_ok-op.ensures.ok_part c.op_of.ensures in
+    let e = sym (ap option_to_list c.in_ok-v.ensures.ok_part) ∙ c.apply.ensures in
+    let t = comes_to (op_number c.in_ok-op.op) c.in_ok-word_of.field-0 c.in_ok-word_of-2.field-0 c.in_ok-v.v (op_below c.in_ok-op.op) (omega arith) (omega arith) e in
+    record { reply = ap Ok c.from.ensures ∙ (rw (q, c.in_ok-word_of.ensures, c.in_ok-word_of-2.ensures) at t); refused = tt }

@@ -2,7 +2,7 @@ use Rattle.std.proofs.Common.{◌≡◌, ◌+◌, ◌<◌, true, false, length, 
 use Rattle.processor.proofs.Flushes.{Flushing, flushed_more, flushed_already}
 use Rattle.processor.proofs.Defaults.{other_default}
 use Rattle.processor.proofs.keeping.flush.Goals as goal
-use Rattle.processor.proofs.keeping.flush.Goals.{then-dirty-p, else-dirty-p}
+use Rattle.processor.proofs.keeping.flush.Goals.{then-written, else-written}
 
 pub loop-p-init : goal.loop-p-init
 loop-p-init c = (omega (arith, c.requires.room), λ a h. absurd (omega arith), c.requires.clean, λ row a h ha. refl)
@@ -14,12 +14,12 @@ loop-p-preserved c =
     let before = c.args.pages.now in
     let p = c.loop-p.p in
     let more = Flushing ws dirty before (p + 1) in
-    elim c.if-dirty-p.branch [
-      | then-dirty-p w ↦
-          subst more (sym w.pages-is) (flushed_more ws dirty before c.loop-p.pages w.store.new.self p c.loop-p-test.true w.store.ensures.room w.store.ensures.stored c.loop-p.invariant)
-      | else-dirty-p w ↦
+    elim c.if-written.branch [
+      | then-written w ↦
+          subst more (sym w.pages-is) (flushed_more ws dirty before c.loop-p.pages w.store.new.self p (omega arith) w.store.ensures.room w.store.ensures.stored c.loop-p.invariant)
+      | else-written w ↦
           let h : p < length dirty = omega arith in
-          subst more (sym w.pages-is) (flushed_already ws dirty before c.loop-p.pages p c.loop-p-test.true (other_default dirty p true false h ∙ w.if-dirty-p.false) c.loop-p.invariant)
+          subst more (sym w.pages-is) (flushed_already ws dirty before c.loop-p.pages p (omega arith) (other_default dirty p true false h ∙ w.if-written.false) c.loop-p.invariant)
     ]
 
 pub returns : goal.returns

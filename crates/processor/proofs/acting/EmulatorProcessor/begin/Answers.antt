@@ -1,8 +1,8 @@
-use Rattle.std.proofs.Common.{◌≡◌, ◌+◌, ◌≤◌, ◌++◌, length, get_or, drop, None, vec_items, vec_len, vec_capacity, ap, ◌∙◌, arith}
-use Rattle.std.proofs.lemmas.List.{take_at}
+use Rattle.std.proofs.Common.{rules, ◌≡◌, ℕ, ◌+◌, ◌≤◌, ◌++◌, length, get_or, None, vec_items, vec_len, vec_capacity, ap, ◌∙◌, arith}
 use Rattle.command.specs.Codes.{code, codes}
 use Rattle.target.proofs.Doing.{each_length, refuses_starts, does_starts}
 use Rattle.processor.specs.Holding.{Held}
+use Rattle.processor.proofs.Defaults.{defaults_copies}
 use Rattle.processor.proofs.Holds.{begun}
 use Rattle.processor.proofs.acting.EmulatorProcessor.begin.Goals as goal
 
@@ -18,12 +18,11 @@ returns c =
     let fits : vec_len c.clear.new.self + length is ≤ vec_capacity c.clear.new.self = omega (arith, c.clear.ensures.len, c.clear.ensures.capacity, e.capacity) in
     let ok = c.extend_from_slice.ensures.succeeds fits in
     let items : vec_items c.extend_from_slice.new.self ≡ is = (simp ok at c.extend_from_slice.ensures.items) ∙ ap (λ z. z ++ is) c.clear.ensures.items in
-    let slots = c.forget.new.slots in
-    let s = take_at slots (drop (length slots) e.slots.items) e.slots.len (omega arith) in
+    let none : (k : ℕ) → get_or (vec_items c.fill.new.self) k None ≡ None = λ k. ap (λ z. get_or z k None) (c.fill.ensures.items (λ y q. search rules)) ∙ defaults_copies _ None k in
     let r = c.restart.ensures in
     let few : length (codes is) ≤ 4096 = omega (arith, each_length code is) in (
       omega arith,
       omega (arith, r.room, r.put, e.outlet),
-      begun _ is items c.clear-2.ensures.items r.at r.regs r.taken r.put r.log c.clear-3.ensures (λ k. ap (λ z. get_or z k None) s ∙ c.forget.ensures k),
-      λ t h. does_starts (Held e) _ (codes is) few (begun _ is items c.clear-2.ensures.items r.at r.regs r.taken r.put r.log c.clear-3.ensures (λ k. ap (λ z. get_or z k None) s ∙ c.forget.ensures k)) t h,
+      begun _ is items c.clear-2.ensures.items r.at r.regs r.taken r.put r.log c.clear-3.ensures none,
+      λ t h. does_starts (Held e) _ (codes is) few (begun _ is items c.clear-2.ensures.items r.at r.regs r.taken r.put r.log c.clear-3.ensures none) t h,
     )

@@ -1,20 +1,26 @@
-use Rattle.std.proofs.Common.{◌≤◌, get_or, inl, inr, arith}
+use Rattle.std.proofs.Common.{arith}
+use Rattle.command.specs.Machine.{does, call}
+use Rattle.processor.specs.Like.{After}
+use Rattle.processor.proofs.Faults.{refused}
 use Rattle.processor.proofs.Instructions.{no_call, calls_on}
 use Rattle.processor.proofs.state.State.calls.Goals as goal
 
-pub returns-then-top-eq0 : goal.returns-then-top-eq0
-returns-then-top-eq0 c =
+pub returns-in_err-place : goal.returns-in_err-place
+returns-in_err-place c =
+    let h = c.in_err-place.ensures in
+    let m = c.args.self.now in
     record {
-      after = λ b s ins l. no_call b c.args.self.now s l ins c.args.k (elim c.then-top-eq0.either [ inl p ↦ inl p | inr p ↦ inr p.1 ]);
+      after = λ b s ins r.
+          refused c.from_residual.result _ _ (λ w. After b m w s (does s ins (call c.args.k))) h.0 c.from_residual.ensures.1 (no_call b m s r.like ins c.args.k h.1);
       room = record { cap = omega arith; put = omega arith };
     }
 
 pub returns : goal.returns
 returns c =
-    let ne = c.if-top-eq0.false in
-    let h : 1 ≤ get_or c.args.self.now.regs 15 0 = omega arith in
+    let h = c.in_ok-place.ensures in
     record {
-      after = λ b s ins l.
-          calls_on b c.args.self.now s l c.put.new.self ins c.args.k c.get-old.result h c.if-top-gt65536.false c.get-old.ensures c.put.ensures.items c.put.ensures.pages;
+      after = λ b s ins r.
+          calls_on b c.args.self.now c.args.next s r c.put.new.self ins c.args.k c.in_ok-place.place c.get-before.result h.1 h.0
+          c.get-before.ensures c.put.ensures.items c.put.ensures.pages;
       room = record { cap = omega arith; put = omega arith };
     }

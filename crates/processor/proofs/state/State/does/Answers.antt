@@ -15,7 +15,7 @@ pub returns-in-Copied : goal.returns-in-Copied
 unfolding does
 returns-in-Copied c =
     record {
-      after = λ b s l. simp (c.in-Copied.is, l.registers) (simp l.registers at (c.with_reg-in-Copied.ensures.on b s l));
+      after = λ b s l. simp (c.in-Copied.is, l.like.registers) (simp l.like.registers at (c.with_reg-in-Copied.ensures.on b s l));
       room = c.with_reg-in-Copied.ensures.room;
     }
 
@@ -23,7 +23,7 @@ pub returns-in-Jump : goal.returns-in-Jump
 unfolding does
 returns-in-Jump c =
     record {
-      after = λ b s l. simp c.in-Jump.is (goes_to b c.args.self.now s l c.in-Jump.n);
+      after = λ b s l. simp c.in-Jump.is (goes_to b c.args.self.now s l.like c.in-Jump.n);
       room = record { cap = omega arith; put = omega arith };
     }
 
@@ -31,6 +31,6 @@ pub returns-in-Halt : goal.returns-in-Halt
 unfolding does
 returns-in-Halt c =
     record {
-      after = λ b s l. simp c.in-Halt.is (record { like = l; why = refl });
+      after = λ b s l. simp c.in-Halt.is (record { like = l.like; why = refl });
       room = record { cap = omega arith; put = omega arith };
     }

@@ -9,8 +9,5 @@ use Rattle.processor.proofs.state.State.goes.Given as goal
 -- there is room for what is left to go, and that, from the state that it came to, makes up what was to be gone
 abbrev pub invariant-loop-by : goal.invariant-loop-by
 invariant-loop-by l =
-    (l.by ≤ l.n) × (l.self.put + (l.n - l.by) ≤ vec_capacity l.self.log) × (vec_capacity l.initial.self.log ≤ vec_capacity l.self.log)
+    (l.self.put + (l.n - l.by) ≤ vec_capacity l.self.log) × (vec_capacity l.initial.self.log ≤ vec_capacity l.self.log)
     × ((b : Base) (s : Model) → Like b l.initial.self s → SoFar (codes l.program) l.fed (breaks_of l.breaks) b l.self l.n l.by s)
-
-abbrev pub decreases-loop-by : goal.decreases-loop-by
-decreases-loop-by l = l.n - l.by

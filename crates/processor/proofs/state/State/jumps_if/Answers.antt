@@ -1,4 +1,4 @@
-use Rattle.std.proofs.Common.{◌+◌, arith}
+use Rattle.std.proofs.Common.{arith}
 use Rattle.command.specs.Codes.{comparison_number}
 use Rattle.processor.proofs.Instructions.{jumps}
 use Rattle.processor.proofs.state.State.jumps_if.Goals as goal
@@ -7,7 +7,7 @@ pub returns-then-compare : goal.returns-then-compare
 returns-then-compare c =
     record {
       after = λ b s ins l.
-          jumps b c.args.self.now s l ins (comparison_number c.args.comparison) c.args.k.number c.args.j.number c.args.n c.args.n c.compare.result c.compare.ensures
+          jumps b c.args.self.now c.args.next s l ins (comparison_number c.args.comparison) c.args.k.number c.args.j.number c.args.n c.args.n c.compare.result c.compare.ensures
           (simp c.if-compare.true);
       room = record { cap = omega arith; put = omega arith };
     }
@@ -16,7 +16,7 @@ pub returns-else-compare : goal.returns-else-compare
 returns-else-compare c =
     record {
       after = λ b s ins l.
-          jumps b c.args.self.now s l ins (comparison_number c.args.comparison) c.args.k.number c.args.j.number c.args.n (c.args.self.now.at + 1) c.compare.result c.compare.ensures
+          jumps b c.args.self.now c.args.next s l ins (comparison_number c.args.comparison) c.args.k.number c.args.j.number c.args.n c.args.next c.compare.result c.compare.ensures
           (simp c.if-compare.false);
       room = record { cap = omega arith; put = omega arith };
     }

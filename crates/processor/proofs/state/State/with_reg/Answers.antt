@@ -5,6 +5,6 @@ use Rattle.processor.proofs.state.State.with_reg.Goals as goal
 pub returns : goal.returns
 returns c =
     record {
-      on = λ b s l. with_reg_on b c.args.self.now s l c.args.k.number c.args.v;
+      on = λ b s l. with_reg_on b c.args.self.now c.args.next s l c.args.k.number c.args.v;
       room = record { cap = omega arith; put = omega arith };
     }

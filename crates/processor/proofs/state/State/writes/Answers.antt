@@ -1,19 +1,27 @@
 use Rattle.std.proofs.Common.{arith}
+use Rattle.command.specs.Machine.{does, write}
+use Rattle.processor.specs.Like.{After}
+use Rattle.processor.proofs.Faults.{refused}
 use Rattle.processor.proofs.Instructions.{no_write, writes_on}
 use Rattle.processor.proofs.state.State.writes.Goals as goal
 
-pub returns-then-a-ge65536 : goal.returns-then-a-ge65536
-returns-then-a-ge65536 c =
+pub returns-in_err-place : goal.returns-in_err-place
+returns-in_err-place c =
+    let h = c.in_err-place.ensures in
+    let m = c.args.self.now in
     record {
-      after = λ b s ins l. no_write b c.args.self.now s l ins c.args.k.number c.args.to.number c.args.n c.if-a-ge65536.true;
+      after = λ b s ins r.
+          refused c.from_residual.result _ _ (λ w. After b m w s (does s ins (write c.args.k.number c.args.to.number c.args.n))) h.0 c.from_residual.ensures.1
+          (no_write b m s r.like ins c.args.k.number c.args.to.number c.args.n h.1);
       room = record { cap = omega arith; put = omega arith };
     }
 
 pub returns : goal.returns
 returns c =
+    let h = c.in_ok-place.ensures in
     record {
-      after = λ b s ins l.
-          writes_on b c.args.self.now s l c.put.new.self ins c.args.k.number c.args.to.number c.args.n c.get-old.result c.if-a-ge65536.false c.get-old.ensures
-          c.put.ensures.items c.put.ensures.pages;
+      after = λ b s ins r.
+          writes_on b c.args.self.now c.args.next s r c.put.new.self ins c.args.k.number c.args.to.number c.args.n c.in_ok-place.place c.get-before.result h.1 h.0
+          c.get-before.ensures c.put.ensures.items c.put.ensures.pages;
       room = record { cap = omega arith; put = omega arith };
     }

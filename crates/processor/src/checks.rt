@@ -1,0 +1,66 @@
+// What an instruction needs to be done, or why it is not done. A step goes by these, and so does the reason why there is none.
+ghost use Rattle.std.specs.Prelude.{◌≡◌, ◌+◌, ◌<◌, ◌≤◌, ◌⊎◌, [], ◌∷◌, length, MatchResult, slice_index, slice_index_or};
+ghost use Rattle.command.specs.Machine.{reckoned as comes_to};
+ghost use Rattle.command.specs.Codes.{op_number};
+
+use crate::arith::apply;
+use crate::state::State;
+use command::code::{Instr, Op, Reg};
+use target::answers::Why;
+
+// There are 65,536 words.
+fn there(a: usize) -> Result<usize, Why>
+    ensures { MatchResult result (λ p. (p ≡ a) × (a < 65536)) (λ y. (y ≡ Why.NoWord) × (65536 ≤ a)) }
+{
+    if a >= 65536 {
+        return Err(Why::NoWord);
+    }
+    Ok(a)
+}
+
+impl State {
+    pub(crate) fn instr(&self, program: &[Instr]) -> Result<Instr, Why>
+        ensures { MatchResult result (λ i. (self.now.at < length program.now) × ((d : _) → i ≡ slice_index_or program.now self.now.at d)) (λ y. (y ≡ Why.NoInstr) × (length program.now ≤ self.now.at)) }
+    {
+        program.get(self.at as usize).copied().ok_or(Why::NoInstr)
+    }
+
+    pub(crate) fn reckoned(&self, op: Op, k: Reg, j: Reg) -> Result<u32, Why>
+        ensures { MatchResult result (λ v. v ∷ [] ≡ comes_to (op_number op) (slice_index self.now.regs k.number) (slice_index self.now.regs j.number)) (λ y. (y ≡ Why.ByZero) × ([] ≡ comes_to (op_number op) (slice_index self.now.regs k.number) (slice_index self.now.regs j.number))) }
+    {
+        apply(
+            op,
+            self.regs[k.number as usize],
+            self.regs[j.number as usize],
+        )
+        .ok_or(Why::ByZero)
+    }
+
+    // Reading a word and writing it want the same.
+    pub(crate) fn word_place(&self, j: Reg, n: u16) -> Result<usize, Why>
+        ensures { MatchResult result (λ a. (a ≡ slice_index self.now.regs j.number + n) × (a < 65536)) (λ y. (y ≡ Why.NoWord) × (65536 ≤ slice_index self.now.regs j.number + n)) }
+    {
+        there(self.regs[j.number as usize] as usize + n as usize)
+    }
+
+    // Where a call leaves the place to return to.
+    pub(crate) fn call_place(&self) -> Result<usize, Why>
+        ensures { MatchResult result (λ a. (a + 1 ≡ slice_index self.now.regs 15) × (a < 65536)) (λ y. (y ≡ Why.NoWord) × ((slice_index self.now.regs 15 ≡ 0) ⊎ (65536 < slice_index self.now.regs 15))) }
+    {
+        let top = self.regs[15].checked_sub(1).ok_or(Why::NoWord)?;
+        there(top as usize)
+    }
+
+    pub(crate) fn return_place(&self) -> Result<usize, Why>
+        ensures { MatchResult result (λ a. (a ≡ slice_index self.now.regs 15) × (a < 65536)) (λ y. (y ≡ Why.NoWord) × (65536 ≤ slice_index self.now.regs 15)) }
+    {
+        there(self.regs[15] as usize)
+    }
+
+    // The next number that came in.
+    pub(crate) fn incoming(&self, fed: &[u32]) -> Result<u32, Why>
+        ensures { MatchResult result (λ v. (self.now.taken < length fed.now) × (v ≡ slice_index fed.now self.now.taken)) (λ y. (y ≡ Why.Waits) × (length fed.now ≤ self.now.taken)) }
+    {
+        fed.get(self.taken).copied().ok_or(Why::Waits)
+    }
+}
