@@ -3,7 +3,7 @@ use Rattle.std.proofs.Common.{◌≡◌, ℕ, suc, ◌+◌, ◌-◌, ◌<◌, �
 use Rattle.std.proofs.lemmas.List.{get_or_append_left, get_or_push, length_push, length-take-le, take_more}
 use Rattle.std.proofs.lemmas.Bool.{cases_lt}
 use Rattle.command.specs.Machine.{any, each, those, word_at, Instr, State as Model, state_at, goes_on, is_running, step}
-use Rattle.command.specs.Plain.{Plain, at_time, moved, holds, holds_at, changes_at, status_number}
+use Rattle.command.specs.Plain.{Plain, at_time, moved, holds, holds_at, changes_at}
 use Rattle.command.specs.Codes.{codes}
 use Rattle.command.specs.Statements.{PastSame}
 use Rattle.command.proofs.MoreInput.{past_same}
@@ -25,6 +25,9 @@ stopped Waits = refl
 stopped NoInstr = refl
 stopped NoWord = refl
 stopped ByZero = refl
+
+pub stuck : (w : Plain) (y : Why) → (at_time w (suc w.now)).status ≡ status_of y → goes_on w.program w.ins w.now ≡ false
+stuck w y f = ap is_running f ∙ stopped y
 
 each_push : {A B : Type 0} (f : A → B) (xs : List A) (x : A) → each f (xs ++ x ∷ []) ≡ each f xs ++ f x ∷ []
 each_push f [] x = refl
@@ -64,9 +67,6 @@ module _ (is : List Code) (fed : List ℕ) (past : List Moment) (t : ℕ) (ws : 
 
   pub words_here : Words ws (at_time w w.now)
   words_here = rw k.time k.words
-
-  pub words_as : (vs : List ℕ) → vs ≡ ws → Words vs (at_time w t)
-  words_as vs e = subst (λ z. Words z (at_time w t)) (sym e) k.words
 
   pub asked : holds_at w w.breaks w.now ≡ any (holds (at_time w (t - 1)) (at_time w t)) (each break_numbered bs)
   asked = rw (k.time, k.breaks) refl
@@ -118,44 +118,33 @@ module _ (is : List Code) (fed : List ℕ) (past : List Moment) (t : ℕ) (ws : 
       (subst (λ z. Words z (at_time w (t - 1))) (sym g) (undo_some m (at_time w (t - 1)) (at_time w t) c ws r f p k.words))
 
   -- a step that is made
-  module _ (js : List Code) (ns vs : List ℕ) (m : Moment) (ej : js ≡ is) (en : ns ≡ fed) (ev : vs ≡ ws) (em : m ≡ get_or past t m) where
-    pub next_is : (P : Model → Model → Type 0) → ((s : Model) → At m s → Words vs s → P s (step (codes js) ns s)) → P (at_time w t) (at_time w (suc t))
-    unfolding state_at
-    next_is P f =
-        let a : At m (at_time w t) = subst (λ z. At z (at_time w t)) (sym em) (here m) in
-        let h : Words vs (at_time w t) = subst (λ z. Words z (at_time w t)) (sym ev) k.words in
-        let p : codes js ≡ w.program = ap codes ej ∙ sym k.program in
-        let i : ns ≡ w.ins = en ∙ sym k.ins in
-        subst (λ z. P (at_time w t) (step w.program z (at_time w t))) i (subst (λ z. P (at_time w t) (step z ns (at_time w t))) p (f (at_time w t) a h))
+  pub next_is : (js : List Code) (ns : List ℕ) (m : Moment) → js ≡ is → ns ≡ fed → m ≡ get_or past t m → (P : Model → Model → Type 0)
+      → ((s : Model) → At m s → Words ws s → P s (step (codes js) ns s)) → P (at_time w t) (at_time w (suc t))
+  unfolding state_at
+  next_is js ns m ej en em P f =
+      let a : At m (at_time w t) = subst (λ z. At z (at_time w t)) (sym em) (here m) in
+      let p : codes js ≡ w.program = ap codes ej ∙ sym k.program in
+      let i : ns ≡ w.ins = en ∙ sym k.ins in
+      subst (λ z. P (at_time w t) (step w.program z (at_time w t))) i (subst (λ z. P (at_time w t) (step z ns (at_time w t))) p (f (at_time w t) a k.words))
 
-    pub stuck : (y : Why) → ((s : Model) → At m s → Words vs s → (step (codes js) ns s).status ≡ status_of y) → goes_on w.program w.ins w.now ≡ false
-    stuck y f = rw k.time (ap is_running (next_is (λ s z. z.status ≡ status_of y) f) ∙ stopped y)
-
-    pub more : (q : Moment) (new : List Moment) → ((s : Model) → At m s → Words vs s → Came q s (step (codes js) ns s)) → length past ≡ t + 1 → new ≡ past ++ q ∷ []
-        → (goes_on w.program w.ins w.now ≡ true) × Holds is fed new t ws bs n w
-    unfolding is_running
-    more q new f e g =
-        let c = next_is (Came q) f in
-        let h = subst (History w.program w.ins) (sym g) (longer w.program w.ins past q t (e ∙ add-one t) k.history c) in (
-          rw k.time (ap is_running c.now.runs),
-          record {
-            program = k.program;
-            ins = k.ins;
-            time = k.time;
-            breaks = k.breaks;
-            next = k.next;
-            known = omega (arith, ap length g, length_push past q, k.known);
-            history = h;
-            words = k.words;
-          },
-        )
-
-    pub no_reason : (q : Moment) → ((s : Model) → At m s → Words vs s → Came q s (step (codes js) ns s)) → 0 ≡ status_number (at_time w (suc w.now)).status
-    unfolding status_number
-    no_reason q f = rw k.time (ap status_number (sym (next_is (Came q) f).now.runs))
-
-    pub reason : (y : Why) → ((s : Model) → At m s → Words vs s → (step (codes js) ns s).status ≡ status_of y) → status_number (status_of y) ≡ status_number (at_time w (suc w.now)).status
-    reason y f = rw k.time (ap status_number (sym (next_is (λ s z. z.status ≡ status_of y) f)))
+  pub more : (q : Moment) (new : List Moment) → Came q (at_time w w.now) (at_time w (suc w.now)) → length past ≡ t + 1 → new ≡ past ++ q ∷ []
+      → (goes_on w.program w.ins w.now ≡ true) × Holds is fed new t ws bs n w
+  unfolding is_running
+  more q new f e g =
+      let c : Came q (at_time w t) (at_time w (suc t)) = subst (λ z. Came q (at_time w z) (at_time w (suc z))) k.time f in
+      let h = subst (History w.program w.ins) (sym g) (longer w.program w.ins past q t (e ∙ add-one t) k.history c) in (
+        ap is_running f.now.runs,
+        record {
+          program = k.program;
+          ins = k.ins;
+          time = k.time;
+          breaks = k.breaks;
+          next = k.next;
+          known = omega (arith, ap length g, length_push past q, k.known);
+          history = h;
+          words = k.words;
+        },
+      )
 
   -- more comes in, and the past stays
   module _ (vs ns : List ℕ) (e : ns ≡ fed ++ vs) where

@@ -14,18 +14,8 @@ pub(crate) fn reckoned(op: Op, a: u32, b: u32) -> Option<u32>
         Op::Sum => Some(a.wrapping_add(b)),
         Op::Difference => Some(a.wrapping_sub(b)),
         Op::Product => Some(a.wrapping_mul(b)),
-        Op::Quotient => {
-            if b == 0 {
-                return None;
-            }
-            Some(a / b)
-        }
-        Op::Remainder => {
-            if b == 0 {
-                return None;
-            }
-            Some(a % b)
-        }
+        Op::Quotient => a.checked_div(b),
+        Op::Remainder => a.checked_rem(b),
         Op::And => Some(a & b),
         Op::Or => Some(a | b),
         Op::Either => Some(a ^ b),
@@ -34,6 +24,7 @@ pub(crate) fn reckoned(op: Op, a: u32, b: u32) -> Option<u32>
     }
 }
 
+#[tactic(auto, unfolding(command::specs::Machine::compared))]
 pub(crate) fn compares(comparison: Comparison, a: u32, b: u32) -> bool
     ensures { result ≡ compared (comparison_number comparison) a b }
 {

@@ -5,11 +5,12 @@ ghost use Rattle.trial.specs.Moments.{status_of};
 
 use crate::moments::Why;
 
-impl Why {
-    pub(crate) fn number(self) -> u64
-        ensures { result ≡ status_number (status_of self) }
-    {
-        match self {
+impl From<Why> for u64 {
+    ghost from_gives = { λ why n. n ≡ status_number (status_of why) };
+
+    #[tactic(auto, unfolding(command::specs::Plain::status_number))]
+    fn from(why: Why) -> u64 {
+        match why {
             Why::Halted => 1,
             Why::Waits => 2,
             Why::NoInstr => 11,

@@ -1,16 +1,27 @@
-use Rattle.std.proofs.Common.{◌≡◌, ◌+◌, ◌-◌, ◌%◌, arith}
-use Rattle.std.proofs.lemmas.Bool.{eq-eqb, ne_eqb}
-use Rattle.command.specs.Machine.{reckoned, whole}
+use Rattle.std.proofs.Common.{◌≡◌, ℕ, ◌+◌, ◌-◌, ◌%◌, ◌<◌, true, false, eqb, [], ◌∷◌, Some, None, Option, refl, ap, arith}
+use Rattle.std.specs.Option.{SomeIff, option_to_list}
+use Rattle.std.proofs.lemmas.Bool.{eqb-true, eqb-false}
+use Rattle.command.specs.Machine.{pick, reckoned, whole}
+use Rattle.command.proofs.Picks.{by_test}
 use Rattle.command.proofs.Reckons.{and_bits, or_bits, xor_bits, twice_shifts, halved_shifts}
 use Rattle.trial.proofs.arith.reckoned.Goals as goal
 
-pub returns-then-b-eq0 : goal.returns-then-b-eq0
-unfolding reckoned
-returns-then-b-eq0 c = simp (c.in-Quotient.is, eq-eqb _ _ c.if-b-eq0.true)
+-- nothing by 0
+unless_zero : (o : Option ℕ) (b v : ℕ) → SomeIff o (0 < b) v → option_to_list o ≡ pick (eqb b 0) [] (v ∷ [])
+unless_zero None b v h =
+    by_test (eqb b 0) (λ (z : eqb b 0 ≡ true). rw z refl)
+    (λ (z : eqb b 0 ≡ false). let q : b ≡ 0 → ⊥ = eqb-false b 0 z in absurd (h (omega arith)))
+unless_zero (Some x) b v h =
+    by_test (eqb b 0) (λ (z : eqb b 0 ≡ true). let q : b ≡ 0 = eqb-true b 0 z in absurd (omega (arith, h.0)))
+    (λ (z : eqb b 0 ≡ false). rw z (ap (λ y. y ∷ []) h.1))
 
-pub returns-then-b-eq0-2 : goal.returns-then-b-eq0-2
+pub returns-in-Quotient : goal.returns-in-Quotient
 unfolding reckoned
-returns-then-b-eq0-2 c = simp (c.in-Remainder.is, eq-eqb _ _ c.if-b-eq0-2.true)
+returns-in-Quotient c = simp c.in-Quotient.is (unless_zero _ c.args.b _ c.checked_div.ensures)
+
+pub returns-in-Remainder : goal.returns-in-Remainder
+unfolding reckoned
+returns-in-Remainder c = simp c.in-Remainder.is (unless_zero _ c.args.b _ c.checked_rem.ensures)
 
 pub returns-in-Sum : goal.returns-in-Sum
 unfolding reckoned
@@ -24,14 +35,6 @@ returns-in-Difference c =
 pub returns-in-Product : goal.returns-in-Product
 unfolding reckoned
 returns-in-Product c = simp c.in-Product.is
-
-pub returns-else-b-eq0 : goal.returns-else-b-eq0
-unfolding reckoned
-returns-else-b-eq0 c = simp (c.in-Quotient.is, ne_eqb _ _ c.if-b-eq0.false)
-
-pub returns-else-b-eq0-2 : goal.returns-else-b-eq0-2
-unfolding reckoned
-returns-else-b-eq0-2 c = simp (c.in-Remainder.is, ne_eqb _ _ c.if-b-eq0-2.false)
 
 pub returns-in-And : goal.returns-in-And
 unfolding reckoned
