@@ -1,4 +1,4 @@
-// What instructions reckon, and how they compare.
+// What instructions reckon, and how they compare. Written anew: the debugger that this one is to be played against shares no code with it.
 ghost use Rattle.std.specs.Prelude.{◌≡◌};
 ghost use Rattle.std.specs.Option.{option_to_list};
 ghost use Rattle.command.specs.Machine.{reckoned as reckoning, compared};

@@ -1,5 +1,5 @@
 // Moving in time: on by steps that are made once, back over those that were, and the words with them.
-ghost use Rattle.std.specs.Prelude.{◌≡◌, ℕ, suc, ◌+◌, ◌-◌, ◌<◌, ◌≤◌, true, false, List, [], ◌∷◌, IfSome, IfOk, vec_len, MatchOption, OnOk};
+ghost use Rattle.std.specs.Prelude.{◌≡◌, ℕ, suc, ◌+◌, ◌-◌, ◌<◌, ◌≤◌, true, false, List, [], ◌∷◌, IfOk, vec_len, MatchOption, OnOk};
 ghost use Rattle.std.specs.Fn.{FnReturnsAt};
 ghost use Rattle.command.specs.Machine.{pick, goes_on};
 ghost use Rattle.command.specs.Plain.{Plain, Break as Asked, at_time, moved, holds_at, on_till, back_till, last_change};
@@ -10,7 +10,7 @@ use crate::debugger::Trial;
 use crate::moments::{Moment, Why};
 use std::alloc::AllocError;
 
-// More moments than any memory holds.
+// More moments than any memory holds. So what a command may step, which is told in 64 bits, is far below what they hold.
 const MOST: usize = 1_099_511_627_776;
 
 impl Trial {
@@ -150,16 +150,11 @@ impl Trial {
         self.off(most, |trial| trial.stops());
     }
 
-    // The last time, now or before, right after a step that changed the word.
-    pub(crate) fn last_change(&self, place: u64) -> Option<usize>
-        ensures time { IfSome result (λ t. t ≤ self.entry.now.now) }
-        ensures last { (w : Plain) → Kept self.entry.now w → MatchOption result (last_change w place w.now ≡ []) (λ t. last_change w place w.now ≡ t ∷ []) }
+    // How many steps ago the word changed last, if it ever did.
+    pub(crate) fn since_change(&self, place: u64) -> Option<usize>
+        ensures { (w : Plain) → Kept self.entry.now w → MatchOption result (last_change w place w.now ≡ []) (λ n. last_change w place w.now ≡ (w.now - n) ∷ []) }
     {
-        for time in (1..self.now + 1).rev() {
-            if self.past[time].changed(place) {
-                return Some(time);
-            }
-        }
-        None
+        let past = &self.past[..self.now + 1];
+        past.iter().rev().position(|m| m.changed(place))
     }
 }

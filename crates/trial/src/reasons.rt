@@ -1,4 +1,4 @@
-// The numbers of the reasons why there is no step.
+// The numbers of the reasons why there is no step. Written anew: the debugger that this one is to be played against shares no code with it.
 ghost use Rattle.std.specs.Prelude.{◌≡◌};
 ghost use Rattle.command.specs.Plain.{status_number};
 ghost use Rattle.trial.specs.Moments.{status_of};

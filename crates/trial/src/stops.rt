@@ -15,10 +15,8 @@ impl Moment {
     pub(crate) fn changed(&self, place: u64) -> bool
         ensures { (s t : Model) → Came self.now s t → result ≡ not (word_at s.words place == word_at t.words place) }
     {
-        match self.written {
-            Some(w) => u64::from(w.place) == place && w.before != w.after,
-            None => false,
-        }
+        self.written
+            .is_some_and(|w| u64::from(w.place) == place && w.before != w.after)
     }
 
     fn passes(&self, test: &Test, memory: &Memory) -> bool
@@ -40,16 +38,10 @@ impl Moment {
     pub(crate) fn stops(&self, stop: &Break, memory: &Memory) -> bool
         ensures { (s t : Model) → Came self.now s t → Words memory.now.words.items t → result ≡ held_by s t (break_of stop.now) }
     {
-        if let Some(place) = stop.place {
-            if self.at != u32::from(place) {
-                return false;
-            }
-        }
-        if let Some(a) = stop.changed {
-            if !self.changed(u64::from(a)) {
-                return false;
-            }
-        }
-        self.passes_all(&stop.tests[0..stop.count as usize], memory)
+        // A break is handed over by value, with its tests and their count, so that none needs a heap.
+        let tests = &stop.tests[0..stop.count as usize];
+        stop.place.is_none_or(|place| self.at == u32::from(place))
+            && stop.changed.is_none_or(|a| self.changed(u64::from(a)))
+            && self.passes_all(tests, memory)
     }
 }

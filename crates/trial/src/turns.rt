@@ -48,9 +48,8 @@ fn grant(order: Order, from: usize, to: usize, answer: &Answer) -> u64
 {
     let apart = from.abs_diff(to) as u64;
     match order {
-        Order::Forward(_) => apart,
+        Order::Forward(_) | Order::Run(_) => apart,
         Order::Back(_) => 4_096 + 16 * apart,
-        Order::Run(_) => apart,
         Order::Rerun(_) => 4_096 + 32 * apart,
         Order::Changer(_) => {
             if answer.is_ok() {
@@ -113,10 +112,10 @@ impl Trial {
     fn changer(&mut self, heap: Global, place: u64) -> Result<Answer, AllocError>
         ensures { IfOk result (λ a. (w : Plain) → Kept self.old w → Answers a self.new w (change place)) }
     {
-        let Some(time) = self.last_change(place) else {
+        let Some(steps) = self.since_change(place) else {
             return Ok(Err(Refusal::NoSuch));
         };
-        self.back((self.now - time) as u64);
+        self.back(steps as u64);
         Ok(Ok(Some(self.time_row(heap)?)))
     }
 }

@@ -213,7 +213,12 @@ fn box_registers(rt: HostRuntime) -> Result<(), Fail> {
 fn waits_and_goes_on(rt: HostRuntime) -> Result<(), Fail> {
     let mut trial = Trial::new(rt.alloc())?;
     let _ = trial.load(&[Instr::In(reg(0)), Instr::Out(reg(0)), Instr::Jump(0)])?;
-    plays(&rt, &mut trial, rt.alloc(), &[moves(Order::Run(9), &[0], 0)])?;
+    plays(
+        &rt,
+        &mut trial,
+        rt.alloc(),
+        &[moves(Order::Run(9), &[0], 0)],
+    )?;
     let _ = trial.give(&[7])?;
     plays(
         &rt,
@@ -343,7 +348,10 @@ fn breaks_are_numbered(rt: HostRuntime) -> Result<(), Fail> {
         &rt,
         &mut trial,
         rt.alloc(),
-        &[refused(Order::Drop(1), Refusal::NoSuch, 0), shows(Order::Break(stop), &[1])],
+        &[
+            refused(Order::Drop(1), Refusal::NoSuch, 0),
+            shows(Order::Break(stop), &[1]),
+        ],
     )
 }
 
@@ -354,7 +362,10 @@ fn no_more_than_fit(rt: HostRuntime) -> Result<(), Fail> {
         assert_eq!(rt; trial.give(&[1; 4096])?.answer, Ok(None));
     }
     assert_eq!(rt; trial.give(&[1])?.answer, Err(Refusal::Full));
-    assert_eq!(rt; trial.load(&[Instr::Halt; 4097])?.answer, Err(Refusal::NoCommand));
+    assert_eq!(rt;
+        trial.load(&[Instr::Halt; 4097])?.answer,
+        Err(Refusal::NoCommand)
+    );
     assert_eq!(rt; trial.load(&[Instr::Halt])?.answer, Ok(None));
     assert_eq!(rt; trial.give(&[1])?.answer, Ok(None));
     Ok(())

@@ -1,19 +1,17 @@
-use Rattle.std.proofs.Common.{◌+◌, ◌*◌, refl, sym, ap, ◌∙◌}
+use Rattle.std.proofs.Common.{◌+◌, ◌*◌, refl, sym, ap, inl, inr, ◌∙◌}
 use Rattle.command.specs.Plain.{may_step}
 use Rattle.trial.proofs.Turning.{apart_is, told_done, others_free}
 use Rattle.trial.proofs.turns.grant.Goals as goal
 
 pub returns-in-Forward : goal.returns-in-Forward
 unfolding may_step
-returns-in-Forward c w t ew et er = rw (c.in-Forward.is, ew, et) (c.abs_diff-apart.ensures ∙ apart_is c.args.from c.args.to)
+returns-in-Forward c w t ew et er =
+    let e = c.abs_diff-apart.ensures ∙ apart_is c.args.from c.args.to in
+    elim c.in-Forward.is [ inl f ↦ rw (f.1, ew, et) e | inr f ↦ rw (f.1, ew, et) e ]
 
 pub returns-in-Back : goal.returns-in-Back
 unfolding may_step
 returns-in-Back c w t ew et er = rw (c.in-Back.is, ew, et) (ap (λ z. 4096 + 16 * z) (c.abs_diff-apart.ensures ∙ apart_is c.args.from c.args.to))
-
-pub returns-in-Run : goal.returns-in-Run
-unfolding may_step
-returns-in-Run c w t ew et er = rw (c.in-Run.is, ew, et) (c.abs_diff-apart.ensures ∙ apart_is c.args.from c.args.to)
 
 pub returns-in-Rerun : goal.returns-in-Rerun
 unfolding may_step

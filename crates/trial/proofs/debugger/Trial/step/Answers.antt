@@ -1,4 +1,3 @@
-use Rattle.std.proofs.Common.{refl}
 use Rattle.trial.specs.Moments.{Next}
 use Rattle.trial.proofs.Moves.{next_is}
 use Rattle.trial.proofs.debugger.Trial.step.Goals as goal
