@@ -7,6 +7,7 @@ ghost use Rattle.command.specs.Codes.{op_number, comparison_number};
 use command::code::{Comparison, Op};
 
 // What it comes to, modulo 2^32; a quotient or a remainder by 0 is nothing.
+#[tactic(auto, using(command::proofs::Reckons::and_bits, command::proofs::Reckons::or_bits, command::proofs::Reckons::xor_bits, command::proofs::Reckons::twice_shifts, command::proofs::Reckons::halved_shifts), unfolding(command::specs::Machine::reckoned))]
 pub(crate) fn reckoned(op: Op, a: u32, b: u32) -> Option<u32>
     ensures { option_to_list result ≡ reckoning (op_number op) a b }
 {

@@ -27,6 +27,7 @@ impl Moment {
 
 impl Trial {
     // Why it doesn't go on from here, or 0.
+    #[tactic(auto, unfolding(command::specs::Plain::status_number))]
     fn why(&self) -> u64
         ensures { (w : Plain) → Kept self.entry.now w → result ≡ status_number (at_time w (suc w.now)).status }
     {
