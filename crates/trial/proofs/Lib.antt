@@ -5,5 +5,6 @@ pub mod Histories
 pub mod Moves
 pub mod Loops
 pub mod Shows
-pub mod Removing
+pub mod Sieves
+pub mod Refused
 pub mod Turning

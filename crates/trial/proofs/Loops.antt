@@ -41,10 +41,6 @@ module _ (w : Plain) (bs : List Break) (t n i : ℕ) (e : on_till w bs w.now n �
         let k : holds_at w bs (suc t) ≡ true = subst (λ z. holds_at w bs z ≡ true) on h in
         e ∙ ap (on_till w bs t) left ∙ (rw (on, g, k) refl)
 
--- nothing holds where nothing is asked
-pub none_holds : (w : Plain) (t : ℕ) → holds_at w [] t ≡ false
-none_holds w t = refl
-
 module _ (w : Plain) (bs : List Break) (t n i : ℕ) (e : back_till w bs w.now n ≡ back_till w bs t (n - i)) where
   pub back_zero : t ≡ 0 → back_till w bs w.now n ≡ t
   unfolding back_till
@@ -76,10 +72,20 @@ module _ (w : Plain) (bs : List Break) (t n i : ℕ) (e : back_till w bs w.now n
         (λ (z : eqb u 0 ≡ true). let q : u ≡ 0 = eqb-true u 0 z in rw (z, q) refl)
         (λ (z : eqb u 0 ≡ false). let q : u ≡ 0 → ⊥ = eqb-false u 0 z in rw (z, h (omega arith)) refl)
 
-    pub back_hit : 0 < u → holds_at w bs u ≡ true → back_till w bs w.now n ≡ u
+    pub back_hit : (0 < u → holds_at w bs u ≡ true) → back_till w bs w.now n ≡ u
     unfolding back_till
-    back_hit up h =
+    back_hit h =
         one_back
         ∙ by_test (eqb u 0)
-        (λ (z : eqb u 0 ≡ true). let q : u ≡ 0 = eqb-true u 0 z in absurd (omega arith))
-        (λ (z : eqb u 0 ≡ false). rw (z, h) refl)
+        (λ (z : eqb u 0 ≡ true). let q : u ≡ 0 = eqb-true u 0 z in rw (z, q) refl)
+        (λ (z : eqb u 0 ≡ false). let q : u ≡ 0 → ⊥ = eqb-false u 0 z in rw (z, h (omega arith)) refl)
+
+-- back, where nothing is asked
+pub back_freely : (w : Plain) (t n : ℕ) → back_till w [] t n ≡ t - n
+unfolding back_till
+back_freely w zero n = omega arith
+back_freely w (suc t) zero = omega arith
+back_freely w (suc t) (suc n) =
+    by_test (eqb t 0)
+    (λ (z : eqb t 0 ≡ true). let q : t ≡ 0 = eqb-true t 0 z in rw z (omega arith))
+    (λ (z : eqb t 0 ≡ false). rw z (back_freely w t n ∙ omega arith))

@@ -1,13 +1,16 @@
 -- The debugger moved, and what it then holds. Assumes nothing.
-use Rattle.std.proofs.Common.{◌≡◌, ℕ, suc, ◌+◌, ◌-◌, ◌<◌, ◌≤◌, Bool, true, false, not, eqb, List, [], ◌∷◌, ◌++◌, length, get_or, take, set, Some, None, sym, refl, ap, ◌∙◌, subst, ⊎_elim, add-one, arith}
-use Rattle.std.proofs.lemmas.List.{get_or_append_left, get_or_push, length_push, length-take-le, take_more}
-use Rattle.std.proofs.lemmas.Bool.{cases_lt}
+use Rattle.std.proofs.Common.{◌≡◌, ℕ, suc, ◌+◌, ◌-◌, ◌<◌, ◌≤◌, Bool, true, false, not, eqb, List, [], ◌∷◌, ◌++◌, length, get_or, take, set, Some, None, Option, sym, refl, ap, ◌∙◌, subst, ⊎_elim, add-one, append-nil, reverse, arith}
+use Rattle.std.proofs.lemmas.List.{get_or_append_left, get_or_push, get_or-reverse, get_or-take, length-reverse, length_push, length-take-le, take_more}
+use Rattle.std.proofs.lemmas.Bool.{cases_lt, eq-eqb, true≢false}
+use Rattle.std.specs.List.{AllWithin, HoldsAt}
+use Rattle.std.specs.Option.{MatchOption}
 use Rattle.command.specs.Machine.{any, each, those, word_at, Instr, State as Model, state_at, goes_on, is_running, step}
-use Rattle.command.specs.Plain.{Plain, at_time, moved, holds, holds_at, changes_at, status_number}
+use Rattle.command.specs.Plain.{Plain, at_time, moved, holds, holds_at, changes_at, last_change}
 use Rattle.command.specs.Codes.{codes}
 use Rattle.command.specs.Statements.{PastSame}
 use Rattle.command.proofs.MoreInput.{past_same}
 use Rattle.command.proofs.PastStays.{given}
+use Rattle.command.proofs.StopsAre.{last_change_is, last_change_none}
 use Rattle.command.specs.declared.code.Instr.{Instr as Code}
 use Rattle.trial.specs.declared.moments.Moment.{Moment}
 use Rattle.trial.specs.declared.moments.Written.{Written}
@@ -16,7 +19,7 @@ use Rattle.trial.specs.declared.moments.Why.TheVariants.{Halted, Waits, NoInstr,
 use Rattle.trial.specs.declared.debugger.Numbered.{Numbered}
 use Rattle.trial.specs.Moments.{At, Words, Came, status_of, first_moment}
 use Rattle.trial.specs.Kept.{History, Holds, break_numbered}
-use Rattle.trial.proofs.Histories.{moment_at, runs_at, goes_at, redo_none, redo_some, undo_none, undo_some}
+use Rattle.trial.proofs.Histories.{first_at, moment_at, runs_at, goes_at, redo_none, redo_some, undo_none, undo_some}
 
 stopped : (y : Why) → is_running (status_of y) ≡ false
 unfolding is_running
@@ -26,9 +29,24 @@ stopped NoInstr = refl
 stopped NoWord = refl
 stopped ByZero = refl
 
+pub stuck : (w : Plain) (y : Why) → (at_time w (suc w.now)).status ≡ status_of y → goes_on w.program w.ins w.now ≡ false
+stuck w y f = ap is_running f ∙ stopped y
+
 each_push : {A B : Type 0} (f : A → B) (xs : List A) (x : A) → each f (xs ++ x ∷ []) ≡ each f xs ++ f x ∷ []
 each_push f [] x = refl
 each_push f (y ∷ ys) x = ap (λ z. f y ∷ z) (each_push f ys x)
+
+-- a moment says of the step that came to it whether that changed the word
+abbrev pub Changed : ℕ → Bool → Moment → Type 0
+Changed a b m = (s z : Model) → Came m s z → b ≡ not (eqb (word_at s.words a) (word_at z.words a))
+
+-- none came to the beginning
+not_first : (a : ℕ) (m : Moment) → m ≡ first_moment → Changed a true m → ⊥
+not_first a m e f =
+    let s : Model = state_at [] [] 0 in
+    let c : Came first_moment s s = record { now = first_at [] []; words = λ b. refl; was = tt; out = sym (append-nil s.out) } in
+    let g : true ≡ not (eqb (word_at s.words a) (word_at s.words a)) = f s s (subst (λ z. Came z s s) (sym e) c) in
+    true≢false (g ∙ ap not (eq-eqb (word_at s.words a) _ refl))
 
 -- one moment more
 pub longer : (is : List Instr) (ins : List ℕ) (past : List Moment) (m : Moment) (t : ℕ) → length past ≡ suc t → History is ins past
@@ -65,18 +83,47 @@ module _ (is : List Code) (fed : List ℕ) (past : List Moment) (t : ℕ) (ws : 
   pub words_here : Words ws (at_time w w.now)
   words_here = rw k.time k.words
 
-  pub words_as : (vs : List ℕ) → vs ≡ ws → Words vs (at_time w t)
-  words_as vs e = subst (λ z. Words z (at_time w t)) (sym e) k.words
-
   pub asked : holds_at w w.breaks w.now ≡ any (holds (at_time w (t - 1)) (at_time w t)) (each break_numbered bs)
   asked = rw (k.time, k.breaks) refl
 
   -- whether the step to a time changed a word
-  pub changed_at : (m : Moment) (a v : ℕ) (r : Bool) → m ≡ get_or past v m → 1 ≤ v → v ≤ t
-      → ((s z : Model) → Came m s z → r ≡ not (eqb (word_at s.words a) (word_at z.words a))) → changes_at w a v ≡ r
-  changed_at m a v r e lo hi f =
-      let c = subst (λ z. Came z (at_time w (v - 1)) (at_time w v)) (sym e) (came_to m (v - 1) v (omega arith) (omega (arith, k.known))) in
-      sym (f (at_time w (v - 1)) (at_time w v) c)
+  changed_at : (a v : ℕ) (b : Bool) → 1 ≤ v → v ≤ t → Changed a b (get_or past v first_moment) → changes_at w a v ≡ b
+  changed_at a v b lo hi f = sym (f (at_time w (v - 1)) (at_time w v) (came_to first_moment (v - 1) v (omega arith) (omega (arith, k.known))))
+
+  -- the moments so far, the last one first
+  module _ (xs : List Moment) (e : xs ≡ take (t + 1) past) where
+    so_many : length (reverse xs) ≡ t + 1
+    so_many = length-reverse xs ∙ ap length e ∙ length-take-le (t + 1) past (omega (arith, k.known))
+
+    ago : (i v : ℕ) → i + v ≡ t → get_or (reverse xs) i first_moment ≡ get_or past v first_moment
+    ago i v q =
+        let n : length xs ≡ t + 1 = sym (length-reverse xs) ∙ so_many in
+        let j : length xs - 1 - i ≡ v = omega arith in
+        get_or-reverse xs i first_moment (omega arith) ∙ ap (λ z. get_or xs z first_moment) j ∙ ap (λ z. get_or z v first_moment) e
+        ∙ get_or-take (t + 1) past v first_moment (omega arith)
+
+    still : (a v : ℕ) → 1 ≤ v → v ≤ t → Changed a false (get_or (reverse xs) (t - v) first_moment) → changes_at w a v ≡ false
+    still a v lo hi f = changed_at a v false lo hi (subst (Changed a false) (ago (t - v) v (omega arith)) f)
+
+    pub since : (a : ℕ) (r : Option ℕ)
+        → MatchOption r (AllWithin (Changed a false) (reverse xs) 0 (length (reverse xs))) (λ i. (i < length (reverse xs)) × HoldsAt (Changed a true) (reverse xs) i × AllWithin (Changed a false) (reverse xs) 0 i)
+        → MatchOption r (last_change w a w.now ≡ []) (λ i. last_change w a w.now ≡ (w.now - i) ∷ [])
+    since a None h =
+        last_change_none w a w.now (λ v lo hi. still a v lo (omega (arith, k.time)) (h (t - v) first_moment (omega arith) (omega (arith, so_many))))
+    since a (Some i) h =
+        let v = t - i in
+        let most : i ≤ t = omega (arith, h.0, so_many) in
+        let q : i + v ≡ t = omega arith in
+        let g : Changed a true (get_or past v first_moment) = subst (Changed a true) (ago i v q) (h.1 first_moment) in
+        ⊎_elim
+        (λ (lo : 0 < v).
+        last_change_is w a w.now v (changed_at a v true lo (omega arith) g) lo (omega (arith, k.time))
+        (λ u p hi. still a u (omega arith) (omega (arith, k.time)) (h.2 (t - u) first_moment (omega arith) (omega (arith, k.time))))
+        ∙ ap (λ z. z ∷ []) (omega (arith, k.time)))
+        (λ (z : v ≤ 0).
+        let zero_is : v ≡ 0 = omega arith in
+        absurd (not_first a _ (k.history.first first_moment) (subst (λ z. Changed a true (get_or past z first_moment)) zero_is g)))
+        (cases_lt 0 v)
 
   pub goes : t + 1 < length past → goes_on w.program w.ins w.now ≡ true
   goes lt = rw k.time (goes_at w.program w.ins past k.history t (omega arith))
@@ -118,44 +165,33 @@ module _ (is : List Code) (fed : List ℕ) (past : List Moment) (t : ℕ) (ws : 
       (subst (λ z. Words z (at_time w (t - 1))) (sym g) (undo_some m (at_time w (t - 1)) (at_time w t) c ws r f p k.words))
 
   -- a step that is made
-  module _ (js : List Code) (ns vs : List ℕ) (m : Moment) (ej : js ≡ is) (en : ns ≡ fed) (ev : vs ≡ ws) (em : m ≡ get_or past t m) where
-    pub next_is : (P : Model → Model → Type 0) → ((s : Model) → At m s → Words vs s → P s (step (codes js) ns s)) → P (at_time w t) (at_time w (suc t))
-    unfolding state_at
-    next_is P f =
-        let a : At m (at_time w t) = subst (λ z. At z (at_time w t)) (sym em) (here m) in
-        let h : Words vs (at_time w t) = subst (λ z. Words z (at_time w t)) (sym ev) k.words in
-        let p : codes js ≡ w.program = ap codes ej ∙ sym k.program in
-        let i : ns ≡ w.ins = en ∙ sym k.ins in
-        subst (λ z. P (at_time w t) (step w.program z (at_time w t))) i (subst (λ z. P (at_time w t) (step z ns (at_time w t))) p (f (at_time w t) a h))
+  pub next_is : (js : List Code) (ns : List ℕ) (m : Moment) → js ≡ is → ns ≡ fed → m ≡ get_or past t m → (P : Model → Model → Type 0)
+      → ((s : Model) → At m s → Words ws s → P s (step (codes js) ns s)) → P (at_time w t) (at_time w (suc t))
+  unfolding state_at
+  next_is js ns m ej en em P f =
+      let a : At m (at_time w t) = subst (λ z. At z (at_time w t)) (sym em) (here m) in
+      let p : codes js ≡ w.program = ap codes ej ∙ sym k.program in
+      let i : ns ≡ w.ins = en ∙ sym k.ins in
+      subst (λ z. P (at_time w t) (step w.program z (at_time w t))) i (subst (λ z. P (at_time w t) (step z ns (at_time w t))) p (f (at_time w t) a k.words))
 
-    pub stuck : (y : Why) → ((s : Model) → At m s → Words vs s → (step (codes js) ns s).status ≡ status_of y) → goes_on w.program w.ins w.now ≡ false
-    stuck y f = rw k.time (ap is_running (next_is (λ s z. z.status ≡ status_of y) f) ∙ stopped y)
-
-    pub more : (q : Moment) (new : List Moment) → ((s : Model) → At m s → Words vs s → Came q s (step (codes js) ns s)) → length past ≡ t + 1 → new ≡ past ++ q ∷ []
-        → (goes_on w.program w.ins w.now ≡ true) × Holds is fed new t ws bs n w
-    unfolding is_running
-    more q new f e g =
-        let c = next_is (Came q) f in
-        let h = subst (History w.program w.ins) (sym g) (longer w.program w.ins past q t (e ∙ add-one t) k.history c) in (
-          rw k.time (ap is_running c.now.runs),
-          record {
-            program = k.program;
-            ins = k.ins;
-            time = k.time;
-            breaks = k.breaks;
-            next = k.next;
-            known = omega (arith, ap length g, length_push past q, k.known);
-            history = h;
-            words = k.words;
-          },
-        )
-
-    pub no_reason : (q : Moment) → ((s : Model) → At m s → Words vs s → Came q s (step (codes js) ns s)) → 0 ≡ status_number (at_time w (suc w.now)).status
-    unfolding status_number
-    no_reason q f = rw k.time (ap status_number (sym (next_is (Came q) f).now.runs))
-
-    pub reason : (y : Why) → ((s : Model) → At m s → Words vs s → (step (codes js) ns s).status ≡ status_of y) → status_number (status_of y) ≡ status_number (at_time w (suc w.now)).status
-    reason y f = rw k.time (ap status_number (sym (next_is (λ s z. z.status ≡ status_of y) f)))
+  pub more : (q : Moment) (new : List Moment) → Came q (at_time w w.now) (at_time w (suc w.now)) → length past ≡ t + 1 → new ≡ past ++ q ∷ []
+      → (goes_on w.program w.ins w.now ≡ true) × Holds is fed new t ws bs n w
+  unfolding is_running
+  more q new f e g =
+      let c : Came q (at_time w t) (at_time w (suc t)) = subst (λ z. Came q (at_time w z) (at_time w (suc z))) k.time f in
+      let h = subst (History w.program w.ins) (sym g) (longer w.program w.ins past q t (e ∙ add-one t) k.history c) in (
+        ap is_running f.now.runs,
+        record {
+          program = k.program;
+          ins = k.ins;
+          time = k.time;
+          breaks = k.breaks;
+          next = k.next;
+          known = omega (arith, ap length g, length_push past q, k.known);
+          history = h;
+          words = k.words;
+        },
+      )
 
   -- more comes in, and the past stays
   module _ (vs ns : List ℕ) (e : ns ≡ fed ++ vs) where

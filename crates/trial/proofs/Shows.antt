@@ -1,12 +1,13 @@
 -- What is shown of a state: rows, piece by piece. Assumes nothing.
-use Rattle.std.proofs.Common.{◌≡◌, ℕ, zero, suc, ◌+◌, ◌-◌, ◌<◌, ◌≤◌, min, ◌⊎◌, List, [], ◌∷◌, ◌++◌, length, get_or, take, drop, sym, refl, ap, ◌∙◌, inl, inr, ⊎_elim, append_assoc, append-nil, arith}
+use Rattle.std.proofs.Common.{◌≡◌, ℕ, zero, suc, ◌+◌, ◌<◌, ◌≤◌, List, [], ◌∷◌, ◌++◌, length, get_or, take, drop, Some, None, Option, sym, refl, ap, ◌∙◌, ⊎_elim, append_assoc, append-nil, arith, drop-cons}
+use Rattle.std.specs.List.{filter_map, cons_option}
 use Rattle.std.specs.Option.{option_to_list}
-use Rattle.std.proofs.lemmas.List.{take_more, take_all, drop_all, length-drop}
+use Rattle.std.proofs.lemmas.List.{take_more, drop_all}
 use Rattle.std.proofs.lemmas.Bool.{cases_lt, lt-ltb, le-ltb}
-use Rattle.command.specs.Machine.{flat, eight, Instr, Word, word_at, state_at}
+use Rattle.command.specs.Machine.{flat, eight, Instr, State as Model, state_at}
 use Rattle.command.specs.Plain.{words_shown}
 use Rattle.trial.specs.declared.moments.Moment.{Moment}
-use Rattle.trial.specs.Moments.{first_moment}
+use Rattle.trial.specs.Moments.{Words, first_moment}
 use Rattle.trial.specs.Kept.{History}
 
 pub flat_push : {A B : Type 0} (f : A → List B) (xs : List A) (x : A) → flat f (xs ++ x ∷ []) ≡ flat f xs ++ f x
@@ -29,46 +30,26 @@ outs_at is ins past h (suc t) lt =
     ∙ ap (λ z. z ++ outs_of (get_or past (suc t) first_moment)) (outs_at is ins past h t (omega arith))
     ∙ sym (h.steps t first_moment lt).out
 
--- one word more
-pub word_shown : (xs : List ℕ) (ws : List Word) (a n v : ℕ) → a < 65536 → v ≡ word_at ws a
-    → flat eight (xs ++ v ∷ []) ++ words_shown ws (a + 1) n ≡ flat eight xs ++ words_shown ws a (suc n)
+-- the words from a place on
+pub shown_words : (ws : List ℕ) (s : Model) → Words ws s → length ws ≡ 65536 → (a n : ℕ) → flat eight (take n (drop a ws)) ≡ words_shown s.words a n
 unfolding words_shown
-word_shown xs ws a n v lt e =
-    let f : a + 1 ≡ suc a = omega arith in
-    ap (λ z. z ++ words_shown ws (a + 1) n) (flat_push eight xs v) ∙ append_assoc (flat eight xs) (eight v) (words_shown ws (a + 1) n)
-    ∙ (rw (lt-ltb a 65536 lt, e, f) refl)
-
-pub none_shown : (ws : List Word) (a n : ℕ) → (65536 ≤ a) ⊎ (n ≡ 0) → words_shown ws a n ≡ []
-unfolding words_shown
-none_shown ws a zero h = refl
-none_shown ws a (suc n) (inl h) = rw (le-ltb a 65536 h) refl
-none_shown ws a (suc n) (inr h) = absurd (omega arith)
-
-take_least : {A : Type 0} (n : ℕ) (xs : List A) → take (min n (length xs)) xs ≡ take n xs
-take_least n xs =
+shown_words ws s h l a zero = refl
+shown_words ws s h l a (suc n) =
     ⊎_elim
-    (λ (l : n < length xs). let e : min n (length xs) ≡ n = omega arith in ap (λ z. take z xs) e)
-    (λ (l : length xs ≤ n). let e : min n (length xs) ≡ length xs = omega arith in ap (λ z. take z xs) e ∙ take_all (length xs) xs (omega arith) ∙ sym (take_all n xs l))
-    (cases_lt n (length xs))
+    (λ (lt : a < 65536).
+    let there : a < length ws = omega (arith, l, lt) in
+    ap (λ z. flat eight (take (suc n) z)) (drop-cons ws a 0 there)
+    ∙ (rw (lt-ltb a 65536 lt, h a) (ap (λ z. eight (get_or ws a 0) ++ z) (shown_words ws s h l (suc a) n))))
+    (λ (le : 65536 ≤ a).
+    let past : length ws ≤ a = omega (arith, l, le) in
+    ap (λ z. flat eight (take (suc n) z)) (drop_all a ws past) ∙ (rw (le-ltb a 65536 le) refl))
+    (cases_lt a 65536)
 
-drop_least : {A : Type 0} (n : ℕ) (xs : List A) → drop (min n (length xs)) xs ≡ drop n xs
-drop_least n xs =
-    ⊎_elim
-    (λ (l : n < length xs). let e : min n (length xs) ≡ n = omega arith in ap (λ z. drop z xs) e)
-    (λ (l : length xs ≤ n). let e : min n (length xs) ≡ length xs = omega arith in ap (λ z. drop z xs) e ∙ drop_all (length xs) xs (omega arith) ∙ sym (drop_all n xs l))
-    (cases_lt n (length xs))
-
-pub window : {A : Type 0} (xs : List A) (a n b m : ℕ) → b ≡ min a (length xs) → m ≡ min n (length xs - b) → take m (drop b xs) ≡ take n (drop a xs)
-window xs a n b m e f =
-    ap (λ z. take z (drop b xs)) (f ∙ ap (min n) (sym (length-drop b xs))) ∙ take_least n (drop b xs) ∙ ap (take n) (ap (λ z. drop z xs) e ∙ drop_least a xs)
-
-pub outs_more : (xs : List ℕ) (past : List Moment) (i : ℕ) (m : Moment) → i < length past → m ≡ get_or past i m → xs ≡ flat outs_of (take i past)
-    → xs ++ option_to_list m.out ≡ flat outs_of (take (i + 1) past)
-outs_more xs past i m lt e f =
-    ap (λ z. z ++ option_to_list m.out) f ∙ ap (λ z. flat outs_of (take i past) ++ outs_of z) e
-    ∙ sym (ap (flat outs_of) (take_more past i m lt) ∙ flat_push outs_of (take i past) (get_or past i m))
-
-pub same_read : {A : Type 0} (xs : List A) (i : ℕ) (d e : A) → i < length xs → get_or xs i d ≡ get_or xs i e
-same_read [] i d e h = absurd (omega arith)
-same_read (x ∷ xs) zero d e h = refl
-same_read (x ∷ xs) (suc i) d e h = same_read xs i d e (omega arith)
+-- what went out, in the library's words
+pub outs_are : (xs : List Moment) → filter_map (λ m. m.out) xs ≡ flat outs_of xs
+outs_are [] = refl
+outs_are (m ∷ ms) = one m.out (outs_are ms)
+  where
+    one : (o : Option ℕ) {xs ys : List ℕ} → xs ≡ ys → cons_option o xs ≡ option_to_list o ++ ys
+    one None e = e
+    one (Some v) e = ap (λ z. v ∷ z) e

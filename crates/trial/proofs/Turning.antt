@@ -1,5 +1,7 @@
 -- What the plain debugger answers, command by command. Assumes nothing.
-use Rattle.std.proofs.Common.{◌≡◌, ℕ, suc, ◌+◌, ◌-◌, ◌<◌, ◌≤◌, true, false, not, eqb, ltb, List, [], ◌∷◌, ◌++◌, length, take, drop, None, vec_items, sym, refl, ap, ◌∙◌, subst, append_assoc, append-nil, arith}
+use Rattle.std.proofs.Common.{◌≡◌, ℕ, suc, ◌+◌, ◌-◌, ◌<◌, ◌≤◌, true, false, not, eqb, ltb, List, [], ◌∷◌, ◌++◌, length, take, drop, Some, None, Ok, Err, Vec, vec_items, sym, refl, ap, ◌∙◌, subst, append_assoc, append-nil, arith}
+use Rattle.std.specs.Result.{is_ok}
+use Rattle.std.specs.declared.alloc.Global.{Global}
 use Rattle.command.specs.Machine.{Instr, eight, flat, any, those}
 use Rattle.command.specs.Plain.{Plain, Break, Command, Turn as Ended, load, give, forward, back, run, rerun, changer, add_break, drop_break, where_now, registers, words_from, outs_from, turn, no, yes_with, moved, moved_turn, changer_turn, last_change, on_till, back_till, apart, at_time, status_number, words_shown, may_step}
 use Rattle.command.proofs.Picks.{by_test}
@@ -9,9 +11,10 @@ use Rattle.command.specs.Told.{meant}
 use Rattle.command.specs.declared.commands.Order.{Order}
 use Rattle.command.specs.declared.commands.Order.TheVariants.{Forward, Back, Run, Rerun, Changer, Break as StopAt, Drop, Where, Registers, Words, Outs}
 use Rattle.trial.specs.declared.debugger.Trial.{Trial}
-use Rattle.trial.specs.declared.turns.Turn.{Turn}
+use Rattle.trial.specs.declared.turns.Refusal.{Refusal}
+use Rattle.trial.specs.declared.turns.Refusal.TheVariants.{NoCommand, NoSuch, Full}
 use Rattle.trial.specs.Kept.{Kept}
-use Rattle.trial.specs.Turns.{rows, Answers}
+use Rattle.trial.specs.Turns.{refusal_number, Answer, reply_of, rows_of, Answers}
 
 pub one_row : (n : ℕ) → flat eight (n ∷ []) ≡ eight n
 one_row n = append-nil (eight n)
@@ -19,24 +22,34 @@ one_row n = append-nil (eight n)
 three_rows : (a b c : ℕ) → eight a ++ eight b ++ eight c ≡ flat eight (a ∷ b ∷ c ∷ [])
 three_rows a b c = append_assoc (eight a) (eight b) (eight c) ∙ ap (λ z. eight a ++ (eight b ++ z)) (sym (append-nil (eight c)))
 
-module _ (t : Turn) (e : Trial) (w : Plain) (c : Command) where
+module _ (e : Trial) (w : Plain) (c : Command) where
   -- it ended so, and the debugger is then that
-  pub answered : (z : Ended) → turn w c ≡ z → t.reply ≡ z.reply → rows vec_items t.shown ≡ z.shows → Kept e z.next → Answers t e w c
-  answered z q r s k =
+  answered : (a : Answer) (z : Ended) → turn w c ≡ z → reply_of a ≡ z.reply → rows_of a ≡ z.shows → Kept e z.next → Answers a e w c
+  answered a z q r s k =
       record {
         reply = r ∙ ap (λ x. x.reply) (sym q);
         shows = s ∙ ap (λ x. x.shows) (sym q);
         kept = subst (λ x. Kept e x.next) (sym q) k;
       }
 
-  pub moved_there : (u : ℕ) → turn w c ≡ moved_turn w u → t.reply ≡ 0 → rows vec_items t.shown ≡ flat eight (e.now ∷ []) ∷ [] → Kept e (moved w u) → Answers t e w c
-  moved_there u q r s k = answered (moved_turn w u) q r (s ∙ ap (λ x. x ∷ []) (one_row e.now ∙ ap eight (sym k.time))) k
+  pub done_as : (a : Answer) (z : Plain) → a ≡ Ok None → turn w c ≡ yes_with [] z → Kept e z → Answers a e w c
+  done_as a z f q k = answered a (yes_with [] z) q (ap reply_of f) (ap rows_of f) k
 
-  pub shown_here : (row : List ℕ) → turn w c ≡ yes_with (row ∷ []) w → t.reply ≡ 0 → rows vec_items t.shown ≡ row ∷ [] → Kept e w → Answers t e w c
-  shown_here row q r s k = answered (yes_with (row ∷ []) w) q r s k
+  pub refused_with : (a : Answer) (r : Refusal) → a ≡ Err r → turn w c ≡ no (refusal_number r) w → Kept e w → Answers a e w c
+  refused_with a r f q k = answered a (no (refusal_number r) w) q (ap reply_of f) (ap rows_of f) k
 
-  pub refused_with : (n : ℕ) → turn w c ≡ no n w → t.reply ≡ n → t.shown ≡ None → Kept e w → Answers t e w c
-  refused_with n q r s k = answered (no n w) q r (ap (rows vec_items) s) k
+  pub shown_as : (v : Vec ℕ Global) (row : List ℕ) (z : Plain) → turn w c ≡ yes_with (row ∷ []) z → flat eight (vec_items v) ≡ row → Kept e z → Answers (Ok (Some v)) e w c
+  shown_as v row z q s k = answered (Ok (Some v)) (yes_with (row ∷ []) z) q refl (ap (λ x. x ∷ []) s) k
+
+  pub moved_there : (v : Vec ℕ Global) (u : ℕ) → turn w c ≡ moved_turn w u → vec_items v ≡ e.now ∷ [] → Kept e (moved w u) → Answers (Ok (Some v)) e w c
+  moved_there v u q s k = shown_as v (eight u) (moved w u) q (ap (flat eight) s ∙ one_row e.now ∙ ap eight (sym k.time)) k
+
+-- 0 says that it is done
+pub told_done : (a : Answer) → eqb (reply_of a) 0 ≡ is_ok a
+told_done (Ok v) = refl
+told_done (Err NoCommand) = refl
+told_done (Err NoSuch) = refl
+told_done (Err Full) = refl
 
 module _ (w : Plain) where
   pub turn_forward : (n : ℕ) → turn w (forward n) ≡ moved_turn w (on_till w [] w.now n)

@@ -1,8 +1,8 @@
 -- When the debugger holds a plain one: every moment that it keeps is that of the state at its time. Assumes nothing: these are definitions.
-use Rattle.std.specs.Prelude.{◌≡◌, ℕ, suc, ◌<◌, List, [], length, vec_items, slice_index_or}
+use Rattle.std.specs.Prelude.{◌≡◌, ℕ, suc, ◌<◌, Bool, List, [], length, vec_items, slice_index_or}
 use Rattle.std.specs.Option.{option_to_list}
 use Rattle.command.specs.Machine.{each, Instr, state_at}
-use Rattle.command.specs.Plain.{Plain, Break, at_time}
+use Rattle.command.specs.Plain.{Plain, Break, at_time, moved, holds_at}
 use Rattle.command.specs.Codes.{codes}
 use Rattle.command.specs.Breaks.{tests_of}
 use Rattle.command.specs.declared.code.Instr.{Instr as Code}
@@ -31,8 +31,12 @@ pub record Holds (is : List Code) (fed : List ℕ) (past : List Moment) (t : ℕ
 
 abbrev pub Kept : Trial → Plain → Type 0
 Kept e w =
-    Holds (vec_items e.program) (vec_items e.fed) (vec_items e.past) e.now (vec_items e.words) (vec_items e.breaks) e.next w
+    Holds (vec_items e.program) (vec_items e.fed) (vec_items e.past) e.now (vec_items e.memory.words) (vec_items e.breaks) e.next w
 
 -- a debugger that nothing was told yet
 abbrev pub fresh : Plain
 fresh = record { program = []; ins = []; now = 0; breaks = []; next = 1 }
+
+-- what a test of the debugger, after each step, says of some breaks
+abbrev pub Tells : (Trial → Bool → Type 0) → Plain → List Break → Type 0
+Tells says w bs = (e : Trial) (b : Bool) (t : ℕ) → 0 < t → Kept e (moved w t) → says e b → b ≡ holds_at w bs t

@@ -1,6 +1,7 @@
 // The debugger: a program, what has come in, every state there was, and the breaks.
 ghost use Rattle.std.specs.Prelude.{◌≡◌, ◌<◌, ◌≤◌, vec_len};
 
+use crate::memory::Memory;
 use crate::moments::Moment;
 use command::breaks::Break;
 use command::code::Instr;
@@ -19,8 +20,8 @@ pub struct Trial {
     // At each time since the beginning, as far as it ever went.
     pub(crate) past: Vec<Moment>,
     pub(crate) now: usize,
-    // Those at `now`.
-    pub(crate) words: Vec<u32>,
+    // As it is at `now`.
+    pub(crate) memory: Memory,
     pub(crate) breaks: Vec<Numbered>,
     // The number of the next break.
     pub(crate) next: u64,
@@ -28,6 +29,5 @@ pub struct Trial {
     ghost intake: { vec_len fed ≤ 65536 },
     ghost bounded: { vec_len past ≤ 1099511627776 },
     ghost known: { now < vec_len past },
-    ghost full: { vec_len words ≡ 65536 },
     ghost few: { vec_len breaks ≤ 64 },
 }

@@ -9,6 +9,7 @@ mod arith;
 mod breaking;
 pub mod debugger;
 mod loading;
+mod memory;
 mod moments;
 mod moving;
 mod reasons;

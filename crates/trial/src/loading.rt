@@ -5,8 +5,9 @@ ghost use Rattle.trial.specs.Kept.{Kept, fresh};
 ghost use Rattle.trial.specs.Turns.{Turns, Loads};
 
 use crate::debugger::Trial;
+use crate::memory::Memory;
 use crate::moments::Moment;
-use crate::turns::{Turn, done, refused};
+use crate::turns::{Refusal, Turn};
 use command::code::Instr;
 use std::alloc::{AllocError, Global};
 
@@ -21,13 +22,13 @@ impl Trial {
     {
         let mut past = Vec::new(heap);
         past.push(Moment::first())?;
-        let words = vec![in heap; 0; 65_536]?;
+        let memory = Memory::new(heap)?;
         Ok(Trial {
             program: Vec::new(heap),
             fed: Vec::new(heap),
             past,
             now: 0,
-            words,
+            memory,
             breaks: Vec::new(heap),
             next: 1,
         })
@@ -38,7 +39,7 @@ impl Trial {
         ensures { IfOk result (λ t. (w : Plain) → Kept self.old w → Loads t self.new w program.now) }
     {
         if program.len() > MOST_INSTRS {
-            return Ok(refused(1));
+            return Ok(Turn::free(Err(Refusal::NoCommand)));
         }
         // The words are then as at the beginning.
         self.back(self.now as u64);
@@ -48,7 +49,7 @@ impl Trial {
         self.breaks.clear();
         self.next = 1;
         self.program.extend_from_slice(program)?;
-        Ok(done())
+        Ok(Turn::free(Ok(None)))
     }
 
     // The states that there were stay right, and one that waited may go on.
@@ -56,9 +57,9 @@ impl Trial {
         ensures { IfOk result (λ t. (w : Plain) → Kept self.old w → Turns t self.new w (given numbers.now)) }
     {
         if self.fed.len().saturating_add(numbers.len()) > MOST_FED {
-            return Ok(refused(7));
+            return Ok(Turn::free(Err(Refusal::Full)));
         }
         self.fed.extend_from_slice(numbers)?;
-        Ok(done())
+        Ok(Turn::free(Ok(None)))
     }
 }

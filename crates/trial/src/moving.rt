@@ -1,23 +1,17 @@
 // Moving in time: on by steps that are made once, back over those that were, and the words with them.
-ghost use Rattle.std.specs.Prelude.{◌≡◌, ℕ, ◌+◌, ◌-◌, ◌<◌, ◌≤◌, true, false, [], ◌∷◌, IfSome, IfOk, vec_len, MatchOption, OnOk, slice_set};
+ghost use Rattle.std.specs.Prelude.{◌≡◌, ℕ, suc, ◌+◌, ◌-◌, ◌<◌, ◌≤◌, true, false, List, [], ◌∷◌, IfOk, vec_len, MatchOption, OnOk};
+ghost use Rattle.std.specs.Fn.{FnReturnsAt};
 ghost use Rattle.command.specs.Machine.{pick, goes_on};
-ghost use Rattle.command.specs.Plain.{Plain, moved, holds_at, on_till, back_till, last_change};
-ghost use Rattle.trial.specs.Kept.{Kept};
+ghost use Rattle.command.specs.Plain.{Plain, Break as Asked, at_time, moved, holds_at, on_till, back_till, last_change};
+ghost use Rattle.trial.specs.Kept.{Kept, Tells};
+ghost use Rattle.trial.specs.Moments.{Next};
 
 use crate::debugger::Trial;
+use crate::moments::{Moment, Why};
 use std::alloc::AllocError;
 
-// More moments than any memory holds.
+// More moments than any memory holds. So what a command may step, which is told in 64 bits, is far below what they hold.
 const MOST: usize = 1_099_511_627_776;
-
-fn put(words: &mut Vec<u32>, place: u16, value: u32)
-    requires { vec_len words.old ≡ 65536 }
-    ensures items { words.new.items ≡ slice_set words.old.items place value }
-    ensures len { vec_len words.new ≡ 65536 }
-    ensures there { place < 65536 }
-{
-    words[place as usize] = value;
-}
 
 impl Trial {
     // How many steps there were since the beginning.
@@ -25,6 +19,13 @@ impl Trial {
         ensures { (w : Plain) → Kept self.entry.now w → result ≡ w.now }
     {
         self.now as u64
+    }
+
+    // What one step makes of the state that it is at.
+    pub(crate) fn step(&self) -> Result<Moment, Why>
+        ensures { (w : Plain) → Kept self.entry.now w → Next result (at_time w w.now) (at_time w (suc w.now)) }
+    {
+        self.past[self.now].next(self.program.as_slice(), self.fed.as_slice(), &self.memory)
     }
 
     // Is there a step from here? Made, if it never was.
@@ -35,12 +36,7 @@ impl Trial {
         if self.now + 1 < self.past.len() {
             return Ok(true);
         }
-        let next = self.past[self.now].next(
-            self.program.as_slice(),
-            self.fed.as_slice(),
-            self.words.as_slice(),
-        );
-        let Ok(moment) = next else {
+        let Ok(moment) = self.step() else {
             return Ok(false);
         };
         if self.past.len() >= MOST {
@@ -58,7 +54,7 @@ impl Trial {
     {
         self.now += 1;
         if let Some(w) = self.past[self.now].written {
-            put(&mut self.words, w.place, w.after);
+            self.memory.put(w.place, w.after);
         }
     }
 
@@ -71,7 +67,7 @@ impl Trial {
         let time = self.now;
         self.now -= 1;
         if let Some(w) = self.past[time].written {
-            put(&mut self.words, w.place, w.before);
+            self.memory.put(w.place, w.before);
         }
     }
 
@@ -87,82 +83,78 @@ impl Trial {
         Ok(true)
     }
 
-    // Does a break hold? None does at the beginning, since no step came to it.
+    // Does a break hold? At the beginning that says nothing, since no step came to it.
     fn stops(&self) -> bool
-        requires { 0 < self.now.now }
-        ensures { (w : Plain) → Kept self.entry.now w → result ≡ holds_at w w.breaks w.now }
+        ensures { (w : Plain) → Kept self.entry.now w → 0 < w.now → result ≡ holds_at w w.breaks w.now }
     {
-        for b in self.breaks.as_slice() {
-            if self.past[self.now].stops(&b.stop, self.words.as_slice()) {
-                return true;
+        let moment = &self.past[self.now];
+        self.breaks
+            .iter()
+            .any(|b| moment.stops(&b.stop, &self.memory))
+    }
+
+    // On, till a test stops it.
+    fn on<F: Fn(&Trial) -> bool>(&mut self, most: u64, stops: F) -> Result<(), AllocError>
+        requires { F.IsAlwaysCallable stops }
+        ensures { OnOk result ((w : Plain) (bs : List Asked) → Tells (FnReturnsAt F.Fn stops) w bs → Kept self.old w → Kept self.new (moved w (on_till w bs w.now most))) }
+    {
+        for _ in 0..most {
+            if !self.goes_on()? {
+                return Ok(());
+            }
+            if stops(self) {
+                return Ok(());
             }
         }
-        false
+        Ok(())
+    }
+
+    // Back, till a test stops it.
+    fn off<F: Fn(&Trial) -> bool>(&mut self, most: u64, stops: F)
+        requires { F.IsAlwaysCallable stops }
+        ensures kept { (w : Plain) (bs : List Asked) → Tells (FnReturnsAt F.Fn stops) w bs → Kept self.old w → Kept self.new (moved w (back_till w bs w.now most)) }
+        ensures time { ((e : Trial) → FnReturnsAt F.Fn stops e true → ⊥) → self.new.now ≡ self.old.now - most }
+    {
+        for _ in 0..self.now.min(most as usize) {
+            self.undo();
+            if stops(self) {
+                return;
+            }
+        }
     }
 
     pub(crate) fn forward(&mut self, most: u64) -> Result<(), AllocError>
         ensures { OnOk result ((w : Plain) → Kept self.old w → Kept self.new (moved w (on_till w [] w.now most))) }
     {
-        for _i in 0..most {
-            if !self.goes_on()? {
-                return Ok(());
-            }
-        }
-        Ok(())
+        self.on(most, |_| false)
     }
 
     // On, till a break holds.
     pub(crate) fn run(&mut self, most: u64) -> Result<(), AllocError>
         ensures { OnOk result ((w : Plain) → Kept self.old w → Kept self.new (moved w (on_till w w.breaks w.now most))) }
     {
-        for _i in 0..most {
-            if !self.goes_on()? {
-                return Ok(());
-            }
-            if self.stops() {
-                return Ok(());
-            }
-        }
-        Ok(())
+        self.on(most, |trial| trial.stops())
     }
 
     pub(crate) fn back(&mut self, most: u64)
         ensures kept { (w : Plain) → Kept self.old w → Kept self.new (moved w (w.now - most)) }
         ensures time { self.new.now ≡ self.old.now - most }
     {
-        for _i in 0..most {
-            if self.now == 0 {
-                return;
-            }
-            self.undo();
-        }
+        self.off(most, |_| false);
     }
 
     // Back, till a break holds.
     pub(crate) fn rerun(&mut self, most: u64)
         ensures { (w : Plain) → Kept self.old w → Kept self.new (moved w (back_till w w.breaks w.now most)) }
     {
-        for _i in 0..most {
-            if self.now == 0 {
-                return;
-            }
-            self.undo();
-            if self.now > 0 && self.stops() {
-                return;
-            }
-        }
+        self.off(most, |trial| trial.stops());
     }
 
-    // The last time, now or before, right after a step that changed the word.
-    pub(crate) fn last_change(&self, place: u64) -> Option<usize>
-        ensures time { IfSome result (λ t. t ≤ self.entry.now.now) }
-        ensures last { (w : Plain) → Kept self.entry.now w → MatchOption result (last_change w place w.now ≡ []) (λ t. last_change w place w.now ≡ t ∷ []) }
+    // How many steps ago the word changed last, if it ever did.
+    pub(crate) fn since_change(&self, place: u64) -> Option<usize>
+        ensures { (w : Plain) → Kept self.entry.now w → MatchOption result (last_change w place w.now ≡ []) (λ n. last_change w place w.now ≡ (w.now - n) ∷ []) }
     {
-        for time in (1..self.now + 1).rev() {
-            if self.past[time].changed(place) {
-                return Some(time);
-            }
-        }
-        None
+        let past = &self.past[..self.now + 1];
+        past.iter().rev().position(|m| m.changed(place))
     }
 }

@@ -1,5 +1,6 @@
 // What is shown of a state, as rows of numbers.
 ghost use Rattle.std.specs.Prelude.{◌≡◌, suc, [], ◌∷◌, take, drop, IfOk};
+ghost use Rattle.std.specs.List.{filter_map};
 ghost use Rattle.command.specs.Machine.{eight, flat};
 ghost use Rattle.command.specs.Plain.{Plain, at_time, status_number, words_shown};
 ghost use Rattle.trial.specs.Kept.{Kept};
@@ -8,33 +9,31 @@ use crate::debugger::Trial;
 use crate::moments::Moment;
 use std::alloc::{AllocError, Global};
 
-const WORDS: u64 = 65_536;
+// What the steps put out, from the given one on, at most so many.
+fn outs(past: &[Moment], heap: Global, from: usize, count: usize) -> Result<Vec<u64>, AllocError>
+    ensures { IfOk result (λ v. v.items ≡ take count (drop from (filter_map (λ m. m.out) past.now))) }
+{
+    let outs = past.iter().filter_map(|m| m.out).skip(from).take(count);
+    outs.map(|v| u64::from(v)).collect(heap)
+}
 
 impl Moment {
     fn registers(&self, heap: Global) -> Result<Vec<u64>, AllocError>
         ensures { IfOk result (λ v. v.items ≡ self.now.regs) }
     {
-        let mut shown = Vec::new(heap);
-        for i in 0..16usize {
-            shown.push(u64::from(self.regs[i]))?;
-        }
-        Ok(shown)
+        self.regs.iter().map(|v| u64::from(*v)).collect(heap)
     }
 }
 
 impl Trial {
     // Why it doesn't go on from here, or 0.
+    #[tactic(auto, unfolding(command::specs::Plain::status_number))]
     fn why(&self) -> u64
         ensures { (w : Plain) → Kept self.entry.now w → result ≡ status_number (at_time w (suc w.now)).status }
     {
-        let next = self.past[self.now].next(
-            self.program.as_slice(),
-            self.fed.as_slice(),
-            self.words.as_slice(),
-        );
-        match next {
+        match self.step() {
             Ok(_) => 0,
-            Err(why) => why.number(),
+            Err(why) => u64::from(why),
         }
     }
 
@@ -68,24 +67,7 @@ impl Trial {
     ) -> Result<Vec<u64>, AllocError>
         ensures { IfOk result (λ v. (w : Plain) → Kept self.entry.now w → flat eight v.items ≡ words_shown (at_time w w.now).words from count) }
     {
-        let mut shown = Vec::new(heap);
-        for a in from..from.saturating_add(count).min(WORDS) {
-            shown.push(u64::from(self.words[a as usize]))?;
-        }
-        Ok(shown)
-    }
-
-    // All that has gone out.
-    fn outs(&self, heap: Global) -> Result<Vec<u64>, AllocError>
-        ensures { IfOk result (λ v. (w : Plain) → Kept self.entry.now w → v.items ≡ (at_time w w.now).out) }
-    {
-        let mut outs = Vec::new(heap);
-        for time in 0..self.now + 1 {
-            if let Some(v) = self.past[time].out {
-                outs.push(u64::from(v))?;
-            }
-        }
-        Ok(outs)
+        self.memory.shown(heap, from as usize, count as usize)
     }
 
     // What has gone out, from the given one on, at most so many.
@@ -97,9 +79,11 @@ impl Trial {
     ) -> Result<Vec<u64>, AllocError>
         ensures { IfOk result (λ v. (w : Plain) → Kept self.entry.now w → v.items ≡ take count (drop from (at_time w w.now).out)) }
     {
-        let outs = self.outs(heap)?;
-        let from = (from as usize).min(outs.len());
-        let count = (count as usize).min(outs.len() - from);
-        Vec::from_slice(heap, &outs.as_slice()[from..from + count])
+        outs(
+            &self.past[..self.now + 1],
+            heap,
+            from as usize,
+            count as usize,
+        )
     }
 }

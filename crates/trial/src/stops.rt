@@ -1,11 +1,12 @@
 // Whether a break holds at a moment, whose words are given.
-ghost use Rattle.std.specs.Prelude.{◌≡◌, not, length, ◌==◌};
+ghost use Rattle.std.specs.Prelude.{◌≡◌, not, ◌==◌};
 ghost use Rattle.command.specs.Machine.{State as Model, each, every, word_at};
 ghost use Rattle.command.specs.Plain.{test_holds, holds as held_by};
 ghost use Rattle.command.specs.Breaks.{test_of, break_of};
 ghost use Rattle.trial.specs.Moments.{At, Words, Came};
 
 use crate::arith::compares;
+use crate::memory::Memory;
 use crate::moments::Moment;
 use command::breaks::{Break, Subject, Test};
 
@@ -14,49 +15,33 @@ impl Moment {
     pub(crate) fn changed(&self, place: u64) -> bool
         ensures { (s t : Model) → Came self.now s t → result ≡ not (word_at s.words place == word_at t.words place) }
     {
-        match self.written {
-            Some(w) => u64::from(w.place) == place && w.before != w.after,
-            None => false,
-        }
+        self.written
+            .is_some_and(|w| u64::from(w.place) == place && w.before != w.after)
     }
 
-    fn passes(&self, test: &Test, words: &[u32]) -> bool
-        requires { length words.now ≡ 65536 }
-        ensures { (s : Model) → At self.now s → Words words.now s → result ≡ test_holds s (test_of test.now) }
+    fn passes(&self, test: &Test, memory: &Memory) -> bool
+        ensures { (s : Model) → At self.now s → Words memory.now.words.items s → result ≡ test_holds s (test_of test.now) }
     {
         let value = match test.subject {
             Subject::Register(k) => self.regs[k.number as usize],
-            Subject::Word(a) => words[a as usize],
+            Subject::Word(a) => memory.get(a),
         };
         compares(test.comparison, value, test.value)
     }
 
-    fn passes_all(&self, tests: &[Test], words: &[u32]) -> bool
-        requires { length words.now ≡ 65536 }
-        ensures { (s : Model) → At self.now s → Words words.now s → result ≡ every (test_holds s) (each test_of tests.now) }
+    fn passes_all(&self, tests: &[Test], memory: &Memory) -> bool
+        ensures { (s : Model) → At self.now s → Words memory.now.words.items s → result ≡ every (test_holds s) (each test_of tests.now) }
     {
-        for test in tests {
-            if !self.passes(test, words) {
-                return false;
-            }
-        }
-        true
+        tests.iter().all(|test| self.passes(test, memory))
     }
 
-    pub(crate) fn stops(&self, stop: &Break, words: &[u32]) -> bool
-        requires { length words.now ≡ 65536 }
-        ensures { (s t : Model) → Came self.now s t → Words words.now t → result ≡ held_by s t (break_of stop.now) }
+    pub(crate) fn stops(&self, stop: &Break, memory: &Memory) -> bool
+        ensures { (s t : Model) → Came self.now s t → Words memory.now.words.items t → result ≡ held_by s t (break_of stop.now) }
     {
-        if let Some(place) = stop.place {
-            if self.at != u32::from(place) {
-                return false;
-            }
-        }
-        if let Some(a) = stop.changed {
-            if !self.changed(u64::from(a)) {
-                return false;
-            }
-        }
-        self.passes_all(&stop.tests[0..stop.count as usize], words)
+        // A break is handed over by value, with its tests and their count, so that none needs a heap.
+        let tests = &stop.tests[0..stop.count as usize];
+        stop.place.is_none_or(|place| self.at == u32::from(place))
+            && stop.changed.is_none_or(|a| self.changed(u64::from(a)))
+            && self.passes_all(tests, memory)
     }
 }

@@ -8,6 +8,7 @@ use std::alloc::Global;
 use std::process::Abort;
 use std::test::Fail;
 use trial::debugger::Trial;
+use trial::turns::Refusal;
 
 fn reg(number: u8) -> Reg
     requires { number < 16 }
@@ -45,62 +46,63 @@ fn worked_box() -> [Instr; 19] {
 }
 
 // Where word 10 changed and isn't below 14.
-fn sum_is_14() -> Option<Break> {
+fn sum_is_14() -> Result<Break, Fail> {
     let test = Test {
         subject: Subject::Word(10),
         comparison: Comparison::NotLess,
         value: 14,
     };
-    Break::with(None, [test; 8], 1, Some(10))
+    Break::with(None, [test; 8], 1, Some(10)).ok_or_else(|| Fail::new("too many tests"))
 }
 
-// A command, how it is to end, the numbers that it is to show, and how many steps it may take.
+// A command, the row of numbers that it is to show, if one, or why it is refused, and how many steps it may take.
 #[derive(Clone, Copy)]
-struct Row {
+struct Row<'a> {
     order: Order,
-    reply: u64,
-    shown: [u64; 16],
-    count: usize,
+    answer: Result<Option<&'a [u64]>, Refusal>,
     granted: u64,
 }
 
-fn expects(order: Order, reply: u64, numbers: &[u64], granted: u64) -> Row {
-    let mut shown = [0; 16];
-    let count = numbers.len().min(16);
-    for i in 0..count {
-        shown[i] = numbers[i];
-    }
+fn moves<'a>(order: Order, time: &'a [u64; 1], granted: u64) -> Row<'a> {
     Row {
         order,
-        reply,
-        shown,
-        count,
+        answer: Ok(Some(time)),
         granted,
     }
 }
 
-fn shows(order: Order, numbers: &[u64]) -> Row {
-    expects(order, 0, numbers, 0)
+fn shows<'a>(order: Order, numbers: &'a [u64]) -> Row<'a> {
+    Row {
+        order,
+        answer: Ok(Some(numbers)),
+        granted: 0,
+    }
 }
 
-fn moves(order: Order, time: u64, granted: u64) -> Row {
-    expects(order, 0, &[time], granted)
+fn done<'a>(order: Order) -> Row<'a> {
+    Row {
+        order,
+        answer: Ok(None),
+        granted: 0,
+    }
 }
 
-fn ends(order: Order, reply: u64, granted: u64) -> Row {
-    expects(order, reply, &[], granted)
+fn refused<'a>(order: Order, refusal: Refusal, granted: u64) -> Row<'a> {
+    Row {
+        order,
+        answer: Err(refusal),
+        granted,
+    }
 }
 
 fn play(rt: &impl Abort, trial: &mut Trial, heap: Global, row: &Row) -> Result<(), Fail> {
     let turn = trial.turn(heap, row.order)?;
-    assert_eq!(rt; turn.reply, row.reply);
-    assert_eq!(rt; turn.granted, row.granted);
-    let shown = match turn.shown {
-        Some(shown) => shown,
-        None => Vec::new(heap),
+    let answer = match &turn.answer {
+        Ok(shown) => Ok(shown.as_ref().map(|numbers| numbers.as_slice())),
+        Err(refusal) => Err(*refusal),
     };
-    assert!(rt; row.count <= 16);
-    assert_eq!(rt; shown.as_slice(), &row.shown[0..row.count]);
+    assert_eq!(rt; answer, row.answer);
+    assert_eq!(rt; turn.granted, row.granted);
     Ok(())
 }
 
@@ -114,24 +116,24 @@ fn plays(rt: &impl Abort, trial: &mut Trial, heap: Global, rows: &[Row]) -> Resu
 // The box as far as its end.
 fn run_box(rt: &impl Abort, heap: Global) -> Result<Trial, Fail> {
     let mut trial = Trial::new(heap)?;
-    assert_eq!(rt; trial.load(&worked_box())?.reply, 0);
+    assert_eq!(rt; trial.load(&worked_box())?.answer, Ok(None));
     plays(
         rt,
         &mut trial,
         heap,
         &[
             shows(Order::Where, &[0, 0, 0]),
-            moves(Order::Forward(100), 3, 3),
+            moves(Order::Forward(100), &[3], 3),
             shows(Order::Where, &[3, 3, 2]),
         ],
     )?;
-    assert_eq!(rt; trial.give(&[5, 9, 8, 0])?.reply, 0);
+    assert_eq!(rt; trial.give(&[5, 9, 8, 0])?.answer, Ok(None));
     plays(
         rt,
         &mut trial,
         heap,
         &[
-            moves(Order::Run(1000), 47, 44),
+            moves(Order::Run(1000), &[47], 44),
             shows(Order::Where, &[47, 11, 1]),
         ],
     )?;
@@ -148,10 +150,10 @@ fn box_looks_back(rt: HostRuntime) -> Result<(), Fail> {
         &[
             shows(Order::Words { from: 10, count: 2 }, &[22, 22]),
             shows(Order::Outs { from: 0, count: 5 }, &[22]),
-            moves(Order::Changer(11), 42, 4096 + 32 * 5),
+            moves(Order::Changer(11), &[42], 4096 + 32 * 5),
             shows(Order::Outs { from: 0, count: 5 }, &[]),
             shows(Order::Where, &[42, 18, 0]),
-            moves(Order::Back(1), 41, 4096 + 16),
+            moves(Order::Back(1), &[41], 4096 + 16),
             shows(Order::Words { from: 10, count: 2 }, &[22, 14]),
         ],
     )
@@ -160,23 +162,21 @@ fn box_looks_back(rt: HostRuntime) -> Result<(), Fail> {
 #[test]
 fn box_breaks(rt: HostRuntime) -> Result<(), Fail> {
     let mut trial = run_box(&rt, rt.alloc())?;
-    let Some(stop) = sum_is_14() else {
-        return Err(Fail::new("too many tests"));
-    };
+    let stop = sum_is_14()?;
     plays(
         &rt,
         &mut trial,
         rt.alloc(),
         &[
-            moves(Order::Back(6), 41, 4096 + 16 * 6),
+            moves(Order::Back(6), &[41], 4096 + 16 * 6),
             shows(Order::Break(stop), &[1]),
-            moves(Order::Rerun(1000), 36, 4096 + 32 * 5),
+            moves(Order::Rerun(1000), &[36], 4096 + 32 * 5),
             shows(Order::Where, &[36, 8, 0]),
-            moves(Order::Rerun(1000), 22, 4096 + 32 * 14),
-            moves(Order::Run(1000), 36, 14),
-            ends(Order::Drop(1), 0, 0),
-            ends(Order::Drop(1), 3, 0),
-            ends(Order::Changer(12), 3, 4096 + 8 * 36),
+            moves(Order::Rerun(1000), &[22], 4096 + 32 * 14),
+            moves(Order::Run(1000), &[36], 14),
+            done(Order::Drop(1)),
+            refused(Order::Drop(1), Refusal::NoSuch, 0),
+            refused(Order::Changer(12), Refusal::NoSuch, 4096 + 8 * 36),
         ],
     )?;
     assert_eq!(rt; trial.time(), 36);
@@ -193,10 +193,10 @@ fn box_registers(rt: HostRuntime) -> Result<(), Fail> {
         rt.alloc(),
         &[
             shows(Order::Registers, &last),
-            moves(Order::Back(1_000_000_000), 0, 4096 + 16 * 47),
+            moves(Order::Back(1_000_000_000), &[0], 4096 + 16 * 47),
             shows(Order::Registers, &[0; 16]),
             shows(Order::Words { from: 10, count: 2 }, &[0, 0]),
-            moves(Order::Forward(1000), 47, 47),
+            moves(Order::Forward(1000), &[47], 47),
             shows(Order::Registers, &last),
             shows(
                 Order::Words {
@@ -213,15 +213,20 @@ fn box_registers(rt: HostRuntime) -> Result<(), Fail> {
 fn waits_and_goes_on(rt: HostRuntime) -> Result<(), Fail> {
     let mut trial = Trial::new(rt.alloc())?;
     let _ = trial.load(&[Instr::In(reg(0)), Instr::Out(reg(0)), Instr::Jump(0)])?;
-    plays(&rt, &mut trial, rt.alloc(), &[moves(Order::Run(9), 0, 0)])?;
+    plays(
+        &rt,
+        &mut trial,
+        rt.alloc(),
+        &[moves(Order::Run(9), &[0], 0)],
+    )?;
     let _ = trial.give(&[7])?;
     plays(
         &rt,
         &mut trial,
         rt.alloc(),
         &[
-            moves(Order::Run(9), 3, 3),
-            moves(Order::Back(2), 1, 4096 + 16 * 2),
+            moves(Order::Run(9), &[3], 3),
+            moves(Order::Back(2), &[1], 4096 + 16 * 2),
         ],
     )?;
     let _ = trial.give(&[8, 9])?;
@@ -230,11 +235,11 @@ fn waits_and_goes_on(rt: HostRuntime) -> Result<(), Fail> {
         &mut trial,
         rt.alloc(),
         &[
-            moves(Order::Forward(100), 9, 8),
+            moves(Order::Forward(100), &[9], 8),
             shows(Order::Where, &[9, 0, 2]),
             shows(Order::Outs { from: 1, count: 1 }, &[8]),
             shows(Order::Outs { from: 1, count: 9 }, &[8, 9]),
-            moves(Order::Back(2), 7, 4096 + 16 * 2),
+            moves(Order::Back(2), &[7], 4096 + 16 * 2),
             shows(Order::Outs { from: 0, count: 9 }, &[7, 8]),
         ],
     )
@@ -255,13 +260,13 @@ fn goes_far(rt: HostRuntime) -> Result<(), Fail> {
         &mut trial,
         rt.alloc(),
         &[
-            moves(Order::Forward(300_000), 300_000, 300_000),
+            moves(Order::Forward(300_000), &[300_000], 300_000),
             shows(Order::Words { from: 6, count: 3 }, &[0, 100_000, 0]),
-            ends(Order::Changer(8), 3, 4096 + 8 * 300_000),
-            moves(Order::Changer(7), 300_000, 4096),
-            moves(Order::Back(299_999), 1, 4096 + 16 * 299_999),
+            refused(Order::Changer(8), Refusal::NoSuch, 4096 + 8 * 300_000),
+            moves(Order::Changer(7), &[300_000], 4096),
+            moves(Order::Back(299_999), &[1], 4096 + 16 * 299_999),
             shows(Order::Words { from: 6, count: 3 }, &[0, 0, 0]),
-            moves(Order::Run(299_998), 299_999, 299_998),
+            moves(Order::Run(299_998), &[299_999], 299_998),
             shows(Order::Words { from: 6, count: 3 }, &[0, 99_999, 0]),
         ],
     )
@@ -283,7 +288,7 @@ fn stands(
         &mut trial,
         heap,
         &[
-            moves(Order::Forward(9), time, time),
+            moves(Order::Forward(9), &[time], time),
             shows(Order::Where, &[time, at, why]),
         ],
     )
@@ -317,9 +322,7 @@ fn wrong_steps(rt: HostRuntime) -> Result<(), Fail> {
 #[test]
 fn breaks_are_numbered(rt: HostRuntime) -> Result<(), Fail> {
     let mut trial = Trial::new(rt.alloc())?;
-    let Some(stop) = sum_is_14() else {
-        return Err(Fail::new("too many tests"));
-    };
+    let stop = sum_is_14()?;
     for number in 1..65u64 {
         plays(
             &rt,
@@ -333,11 +336,11 @@ fn breaks_are_numbered(rt: HostRuntime) -> Result<(), Fail> {
         &mut trial,
         rt.alloc(),
         &[
-            ends(Order::Break(stop), 7, 0),
-            ends(Order::Drop(64), 0, 0),
-            ends(Order::Drop(64), 3, 0),
+            refused(Order::Break(stop), Refusal::Full, 0),
+            done(Order::Drop(64)),
+            refused(Order::Drop(64), Refusal::NoSuch, 0),
             shows(Order::Break(stop), &[65]),
-            ends(Order::Drop(0), 3, 0),
+            refused(Order::Drop(0), Refusal::NoSuch, 0),
         ],
     )?;
     let _ = trial.load(&[Instr::Halt])?;
@@ -345,19 +348,25 @@ fn breaks_are_numbered(rt: HostRuntime) -> Result<(), Fail> {
         &rt,
         &mut trial,
         rt.alloc(),
-        &[ends(Order::Drop(1), 3, 0), shows(Order::Break(stop), &[1])],
+        &[
+            refused(Order::Drop(1), Refusal::NoSuch, 0),
+            shows(Order::Break(stop), &[1]),
+        ],
     )
 }
 
 #[test]
 fn no_more_than_fit(rt: HostRuntime) -> Result<(), Fail> {
     let mut trial = Trial::new(rt.alloc())?;
-    for _i in 0..16u64 {
-        assert_eq!(rt; trial.give(&[1; 4096])?.reply, 0);
+    for _ in 0..16u64 {
+        assert_eq!(rt; trial.give(&[1; 4096])?.answer, Ok(None));
     }
-    assert_eq!(rt; trial.give(&[1])?.reply, 7);
-    assert_eq!(rt; trial.load(&[Instr::Halt; 4097])?.reply, 1);
-    assert_eq!(rt; trial.load(&[Instr::Halt])?.reply, 0);
-    assert_eq!(rt; trial.give(&[1])?.reply, 0);
+    assert_eq!(rt; trial.give(&[1])?.answer, Err(Refusal::Full));
+    assert_eq!(rt;
+        trial.load(&[Instr::Halt; 4097])?.answer,
+        Err(Refusal::NoCommand)
+    );
+    assert_eq!(rt; trial.load(&[Instr::Halt])?.answer, Ok(None));
+    assert_eq!(rt; trial.give(&[1])?.answer, Ok(None));
     Ok(())
 }

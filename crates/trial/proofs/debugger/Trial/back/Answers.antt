@@ -1,12 +1,7 @@
-use Rattle.std.proofs.Common.{◌≡◌, ◌+◌, ◌-◌, arith}
-use Rattle.command.specs.Plain.{moved}
-use Rattle.trial.proofs.Loops.{moved_as}
+use Rattle.std.proofs.Common.{[], rules, sym}
+use Rattle.trial.proofs.Loops.{moved_as, back_freely}
 use Rattle.trial.proofs.debugger.Trial.back.Goals as goal
 
-pub loop-i-preserved : goal.loop-i-preserved
-loop-i-preserved c = (
-  omega (arith, c.undo.ensures.time, c.loop-i.invariant.0),
-  λ w k.
-      let e : w.now - (c.loop-i._i + 1) ≡ w.now - c.loop-i._i - 1 = omega arith in
-      moved_as w _ _ e (c.undo.ensures.kept (moved w (w.now - c.loop-i._i)) (c.loop-i.invariant.1 w k)),
-)
+pub returns-clause-kept : goal.returns-clause-kept
+returns-clause-kept c w k =
+    moved_as w _ _ (sym (back_freely w w.now c.args.most)) (c.off.ensures.kept w [] (λ e b t pos at says. search rules) k)

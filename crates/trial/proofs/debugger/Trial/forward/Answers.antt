@@ -1,25 +1,6 @@
-use Rattle.std.proofs.Common.{[], sym, ◌∙◌}
-use Rattle.command.specs.Plain.{moved}
-use Rattle.trial.proofs.Loops.{moved_as, on_stuck, on_done, on_more, none_holds}
+use Rattle.std.proofs.Common.{[], rules}
+use Rattle.std.proofs.lemmas.Result.{on_ok_weaker}
 use Rattle.trial.proofs.debugger.Trial.forward.Goals as goal
 
-pub returns-then-not-branch : goal.returns-then-not-branch
-returns-then-not-branch c w k =
-    let i = c.loop-i.invariant w k in
-    let g = c.in_ok-goes_on.ensures.goes (moved w c.loop-i.self.now) i.0 in
-    moved_as w _ _ (on_stuck w [] c.loop-i.self.now c.args.most c.loop-i._i i.1 (g.0 ∙ c.if-not-branch.true)) (rw c.if-not-branch.true at g.1)
-
-pub loop-i-preserved : goal.loop-i-preserved
-loop-i-preserved c w k =
-    let i = c.loop-i.invariant w k in
-    let g = c.in_ok-goes_on.ensures.goes (moved w c.loop-i.self.now) i.0 in
-    let h = rw c.if-not-branch.false at g.1 in
-    let m = moved_as w _ _ (sym h.time) h in (
-      m,
-      on_more w [] c.loop-i.self.now c.args.most c.loop-i._i i.1 c.goes_on.new.self.now c.loop-i-test.true (sym h.time) (g.0 ∙ c.if-not-branch.false) (none_holds w c.goes_on.new.self.now),
-    )
-
 pub returns : goal.returns
-returns c w k =
-    let i = c.loop-i.invariant w k in
-    moved_as w _ _ (on_done w [] c.loop-i.self.now c.args.most c.loop-i._i i.1 c.loop-i-test.false) i.0
+returns c = on_ok_weaker c.on.result (λ h w k. h w [] (λ e b t pos at says. search rules) k) c.on.ensures

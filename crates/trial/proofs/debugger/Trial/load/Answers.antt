@@ -1,9 +1,8 @@
 use Rattle.std.proofs.Common.{◌≡◌, ◌++◌, vec_items, sym, ap, ◌∙◌, arith}
 use Rattle.command.specs.Codes.{codes}
 use Rattle.command.specs.Plain.{load}
-use Rattle.trial.specs.Turns.{rows}
 use Rattle.trial.proofs.Moves.{begun}
-use Rattle.trial.proofs.Turning.{answered, turn_load, load_free}
+use Rattle.trial.proofs.Turning.{done_as, turn_load, load_free}
 use Rattle.trial.proofs.debugger.Trial.load.Goals as goal
 
 pub returns : goal.returns
@@ -14,8 +13,8 @@ returns c w k =
     let h = begun _ _ _ _ _ _ _ _ (c.back.ensures.kept w k) (codes is) (vec_items c.extend_from_slice.new.self) _ _ _ z (ap codes (sym e)) c.clear-2.ensures.items c.truncate.ensures.items c.clear-3.ensures.items in
     record {
       short = λ _. record {
-        answers = answered c.done.result _ w (load (codes is)) _ (turn_load w (codes is)) c.done.ensures.0 (ap (rows vec_items) c.done.ensures.1) h;
-        granted = c.done.ensures.2 ∙ sym (load_free w (codes is) _);
+        answers = done_as _ w (load (codes is)) c.free-2.result.answer _ c.free-2.ensures.answer (turn_load w (codes is)) h;
+        granted = c.free-2.ensures.granted ∙ sym (load_free w (codes is) _);
       };
       long = λ l. absurd (omega (arith, l, c.if-program-gt-MOST_INSTRS.false));
     }

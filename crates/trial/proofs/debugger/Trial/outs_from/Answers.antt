@@ -1,20 +1,17 @@
-use Rattle.std.proofs.Common.{◌≡◌, ◌+◌, ◌-◌, min, length, take, drop, ap, ◌∙◌, arith}
+use Rattle.std.proofs.Common.{◌+◌, take, drop, vec_items, sym, ap, ◌∙◌}
 use Rattle.std.proofs.lemmas.Result.{IfOk-weaker}
-use Rattle.trial.proofs.Shows.{window}
+use Rattle.command.specs.Machine.{flat}
+use Rattle.command.specs.Plain.{at_time}
+use Rattle.trial.proofs.Shows.{outs_at, outs_are, outs_of}
 use Rattle.trial.proofs.debugger.Trial.outs_from.Goals as goal
 
 pub returns : goal.returns
 returns c =
-    let xs = c.as_slice.result.now in
-    let b = c.min-from.result in
-    let m = c.min-count.result in
-    let n : length xs ≡ c.len.result = omega (arith, c.as_slice.ensures.len, c.len.ensures) in
-    let n₂ : length xs ≡ c.len-2.result = omega (arith, c.as_slice.ensures.len, c.len-2.ensures) in
-    let e : b ≡ min c.args.from (length xs) = omega (arith, c.min-from.ensures, n) in
-    let f : m ≡ min c.args.count (length xs - b) = omega (arith, c.min-count.ensures, n₂) in
-    let d : b + m - b ≡ m = omega arith in
-    IfOk-weaker c.from_slice.result _ _
+    let past = vec_items c.args.self.now.past in
+    let t = c.args.self.now.now in
+    IfOk-weaker c.outs.result _ _
     (λ v p w k.
-    p ∙ ap (λ z. take z (drop b xs)) d ∙ window xs c.args.from c.args.count b m e f
-    ∙ ap (λ z. take c.args.count (drop c.args.from z)) (c.as_slice.ensures.value ∙ c.in_ok-outs.ensures w k))
-    c.from_slice.ensures.items
+    p
+    ∙ ap (λ z. take c.args.count (drop c.args.from z))
+    (outs_are (take (t + 1) c.deref.result.now) ∙ ap (λ z. flat outs_of (take (t + 1) z)) c.deref.ensures.value ∙ outs_at w.program w.ins past k.history t k.known ∙ ap (λ z. (at_time w z).out) (sym k.time)))
+    c.outs.ensures

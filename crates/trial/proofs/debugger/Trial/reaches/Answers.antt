@@ -11,21 +11,13 @@ returns-then-self-len c =
     }
 
 pub returns-in_default : goal.returns-in_default
-returns-in_default c =
-    record {
-      there = λ e. absurd (both_ways _ refl e);
-      tells = λ w k. (
-        stuck _ _ _ _ _ _ _ w k _ _ _ c.index.result.now c.as_slice.ensures.value c.as_slice-2.ensures.value c.as_slice-3.ensures.value c.index.ensures
-            c.in_default.field-0 c.in_default.ensures,
-        k,
-      );
-    }
+returns-in_default c = record { there = λ e. absurd (both_ways _ refl e); tells = λ w k. (stuck w c.in_default.field-0 (c.in_default.ensures w k), k) }
 
 pub returns : goal.returns
 returns c =
     record {
       there = λ _. omega (arith, c.in_ok-push.ensures.len, c.args.self.now.known);
       tells = λ w k.
-          more _ _ _ _ _ _ _ w k _ _ _ c.index.result.now c.as_slice.ensures.value c.as_slice-2.ensures.value c.as_slice-3.ensures.value c.index.ensures
-          c.in-Ok.moment _ c.in-Ok.ensures (omega (arith, c.len.ensures, c.if-self-len.false, c.args.self.now.known, c.args.self.now.past.ok.0)) c.in_ok-push.ensures.items;
+          more _ _ _ _ _ _ _ w k c.in-Ok.moment _ (c.in-Ok.ensures w k) (omega (arith, c.len.ensures, c.if-self-len.false, c.args.self.now.known, c.args.self.now.past.ok.0))
+          c.in_ok-push.ensures.items;
     }

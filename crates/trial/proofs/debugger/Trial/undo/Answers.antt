@@ -7,7 +7,7 @@ returns-in-Some c =
     record {
       kept = λ w k.
           back_some _ _ _ _ _ _ _ w k c.index.result.now c.in-Some.w _ c.index.ensures c.requires c.in-Some.is
-          (omega (arith, c.put.ensures.there, c.args.self.now.full, c.args.self.now.words.ok.0)) c.put.ensures.items;
+          (omega (arith, c.put.ensures.there, c.args.self.now.memory.words.ok.0)) c.put.ensures.items;
       time = refl;
     }
 

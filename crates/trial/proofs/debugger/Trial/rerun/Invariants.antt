@@ -1,9 +1,0 @@
-use Rattle.std.proofs.Common.{◌≡◌, ◌-◌}
-use Rattle.command.specs.Plain.{Plain, moved, back_till}
-use Rattle.trial.specs.Kept.{Kept}
-use Rattle.trial.proofs.debugger.Trial.rerun.Given as goal
-
--- from where it came to, going back by what is left comes to the same
-abbrev pub invariant-loop-i : goal.invariant-loop-i
-invariant-loop-i l =
-    (w : Plain) → Kept l.initial.self w → Kept l.self (moved w l.self.now) × (back_till w w.breaks w.now l.most ≡ back_till w w.breaks l.self.now (l.most - l._i))
