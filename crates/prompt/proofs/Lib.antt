@@ -1,5 +1,3 @@
-pub mod Runs
-pub mod Digits
 pub mod Choices
 pub mod Values
 mod Examples

@@ -6,7 +6,8 @@ use Rattle.std.proofs.lemmas.Fmt.{decimal_by_steps}
 use Rattle.std.proofs.lemmas.Bool.Decides.{nat_tests}
 use Rattle.std.proofs.lemmas.Bool.{le-leb}
 use Rattle.prompt.specs.Words.{is_blank, in_word, trimmed, word, behind}
-use Rattle.prompt.specs.Numbers.{most_of, onward, digit, put_behind, longer, digits, is_hexadecimal, number}
+use Rattle.scan.specs.Numbers.{onward, digit, put_behind, longer, digits, is_hexadecimal, number}
+use Rattle.prompt.specs.Numbers.{most_of}
 use Rattle.prompt.specs.Verbs.{choice}
 use Rattle.prompt.specs.Requests.{Got, got, slip, bind, or_slip, unless_over, a_number, as_two, Asked, forward, words, outs, Answer, right, answer}
 use Rattle.prompt.specs.Statements.{SpelledOut, TypedBack, spaced}

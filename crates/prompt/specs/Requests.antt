@@ -2,12 +2,11 @@
 -- A reader takes what it reads off the front of a text, and leaves the rest, or stops where something else was expected.
 use Rattle.std.specs.Prelude.{ℕ, zero, suc, ◌+◌, ◌-◌, cond, List, [], ◌∷◌, ◌++◌, length, Some, None, Option, ◌==◌}
 use Rattle.prompt.specs.Words.{trimmed, word, behind, is_over}
-use Rattle.prompt.specs.Verbs.{choice, verbs}
-use Rattle.prompt.specs.Numbers.{most_of, number}
+use Rattle.prompt.specs.Verbs.{Choice, no_verb, one, several, exact, choice, verbs}
+use Rattle.scan.specs.Numbers.{number}
+use Rattle.prompt.specs.Numbers.{most_of}
 use Rattle.prompt.specs.declared.verbs.Verb.{Verb}
 use Rattle.prompt.specs.declared.verbs.Verb.TheVariants.{Load, Give, Forward, Where, Registers, Words, Outs, Help, Quit}
-use Rattle.prompt.specs.declared.verbs.Choice.{Choice}
-use Rattle.prompt.specs.declared.verbs.Choice.TheVariants.{No, One, Several, Exact}
 use Rattle.prompt.specs.declared.quantities.Quantity.{Quantity}
 use Rattle.prompt.specs.declared.quantities.Quantity.TheVariants.{Steps, Value, Address, First, Count}
 use Rattle.prompt.specs.declared.mistakes.Expected.{Expected}
@@ -35,13 +34,13 @@ abbrev pub a_number : Quantity → Reader ℕ
 a_number q t = or_slip (number (most_of q) (word (trimmed t))) (trimmed t) (behind (trimmed t)) (Number q)
 
 abbrev pub a_choice : Choice → (here rest : List ℕ) → Got Verb
-a_choice No here rest = slip here Command
-a_choice Several here rest = slip here MoreLetters
-a_choice (One v) here rest = got v rest
-a_choice (Exact v) here rest = got v rest
+a_choice no_verb here rest = slip here Command
+a_choice several here rest = slip here MoreLetters
+a_choice (one v) here rest = got v rest
+a_choice (exact v) here rest = got v rest
 
 abbrev pub a_verb : Reader Verb
-a_verb t = a_choice (choice (word (trimmed t)) verbs No) (trimmed t) (behind (trimmed t))
+a_verb t = a_choice (choice (word (trimmed t)) verbs no_verb) (trimmed t) (behind (trimmed t))
 
 -- what is read here, unless nothing more stands on the line; then the other
 abbrev pub unless_over : {A : Type 0} → Got A → List ℕ → Got A → Got A

@@ -1,6 +1,7 @@
 -- How a line is cut into words. Assumes nothing: these are definitions.
-use Rattle.std.specs.Prelude.{ℕ, Bool, true, cond, not, ◌&&◌, List, [], ◌∷◌, take, drop, ◌==◌}
+use Rattle.std.specs.Prelude.{ℕ, Bool, true, cond, not, ◌&&◌, List, take, drop, ◌==◌}
 use Rattle.std.specs.List.{prefix_len}
+use Rattle.scan.specs.Fronts.{over}
 
 -- a space, a tab, a comma, a carriage return
 abbrev pub is_blank : ℕ → Bool
@@ -21,5 +22,4 @@ behind t = drop (prefix_len in_word t) t
 
 -- nothing but a comment is left
 abbrev pub is_over : List ℕ → Bool
-is_over [] = true
-is_over (b ∷ t) = b == 35
+is_over t = over t

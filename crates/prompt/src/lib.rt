@@ -1,6 +1,7 @@
 // What is typed at the prompt: requests, and mistakes with the place where they stand.
 #![tactic(auto)]
 
+mod cursor;
 pub mod mistakes;
 pub mod quantities;
 pub mod requests;

@@ -1,9 +1,9 @@
 // What is wrong with a line: where, what stands there, and what was expected.
 use crate::quantities::Quantity;
-use crate::verbs::{Fit, VERBS};
+use crate::verbs::VERBS;
 use std::fmt;
 
-#[derive(Clone, Copy)]
+#[derive(Clone, Copy, Debug, PartialEq, Eq)]
 pub enum Expected {
     Command,
     // More of the word, since it is the front of several commands.
@@ -13,13 +13,6 @@ pub enum Expected {
     // No more numbers than can be given at once.
     FewerNumbers,
     End,
-}
-
-// A mistake where it was found: the line from there on.
-#[derive(Clone, Copy)]
-pub(crate) struct Slip<'a> {
-    pub rest: &'a [u8],
-    pub expected: Expected,
 }
 
 // A mistake as it is told: the column, from 1, and the word that stands there; at the end of the line that is empty.
@@ -59,14 +52,12 @@ fn show_candidates<W: fmt::Write>(word: &[u8], f: &mut fmt::Formatter<W>) -> fmt
     if let Ok(text) = std::str::from_utf8(word) {
         write!(f, "'{text}' could be ")?;
     }
-    let mut first = true;
+    let mut separator = "";
     for verb in VERBS {
-        if let Fit::Front = verb.fit(word) {
-            if !first {
-                f.write_str(" or ")?;
-            }
-            first = false;
+        if verb.begins_with(word) {
+            f.write_str(separator)?;
             f.write_str(verb.spelled())?;
+            separator = " or ";
         }
     }
     Ok(())

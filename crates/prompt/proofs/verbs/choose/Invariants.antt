@@ -1,7 +1,6 @@
-use Rattle.std.proofs.Common.{◌≡◌, drop}
-use Rattle.prompt.specs.Verbs.{choice, verbs}
-use Rattle.prompt.specs.declared.verbs.Choice.TheVariants.{No}
+use Rattle.prompt.specs.Verbs.{verbs}
+use Rattle.prompt.proofs.Choices.{Sofar}
 use Rattle.prompt.proofs.verbs.choose.Given as goal
 
-abbrev pub invariant-loop-i : goal.invariant-loop-i
-invariant-loop-i l = choice l.word (drop l.i verbs) l.chosen ≡ choice l.word verbs No
+abbrev pub invariant-loop-verb : goal.invariant-loop-verb
+invariant-loop-verb l = Sofar l.word verbs l.verb-index l.chosen

@@ -1,6 +1,6 @@
 use Rattle.std.proofs.Common.{sym, ◌∙◌, arith, rules}
-use Rattle.prompt.proofs.Digits.{digits_stop, digits_more, digits_all}
-use Rattle.prompt.proofs.quantities.number_from.Goals as goal
+use Rattle.scan.proofs.Digits.{digits_stop, digits_more, digits_all}
+use Rattle.scan.proofs.numbers.number_from.Goals as goal
 
 pub returns-in_err-n : goal.returns-in_err-n
 returns-in_err-n c =

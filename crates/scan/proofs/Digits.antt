@@ -1,7 +1,7 @@
 -- A loop over digits: a byte that ends it, a byte more, the end.
 use Rattle.std.proofs.Common.{◌≡◌, ℕ, ◌+◌, ◌<◌, ◌≤◌, List, length, get_or, drop, Some, None, ap, ◌∙◌}
 use Rattle.std.proofs.lemmas.List.{at_drop_more, at_drop_all}
-use Rattle.prompt.specs.Numbers.{onward, longer, digits}
+use Rattle.scan.specs.Numbers.{onward, longer, digits}
 
 module _ (base most n : ℕ) (xs : List ℕ) (i : ℕ) where
   pub digits_stop : i < length xs → longer base most n (get_or xs i 0) ≡ None → digits base most n (drop i xs) ≡ None
