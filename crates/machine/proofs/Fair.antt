@@ -1,13 +1,14 @@
 -- Plans whose acts can be carried: this crate's, and engines that go by such plans. Assumes nothing.
-use Rattle.std.proofs.Common.{◌≡◌, ℕ, suc, ◌+◌, ◌-◌, ◌/◌, ◌%◌, ◌≤◌, Bool, true, false, ◌&&◌, eqb, ltb, leb, List, [], ◌∷◌, length, Some, None, Option, sym, refl, ◌∙◌, subst, arith}
-use Rattle.std.proofs.lemmas.Bool.{and_parts, leb-true, ltb-true, ltb-false, eq-eqb}
+use Rattle.std.proofs.Common.{◌≡◌, ℕ, suc, ◌+◌, ◌/◌, ◌≤◌, Bool, true, false, ◌&&◌, eqb, ltb, leb, List, [], ◌∷◌, length, Some, None, Option, sym, refl, ◌∙◌, subst, arith}
+use Rattle.std.proofs.lemmas.Bool.{and_parts, leb-true, ltb-false, eq-eqb}
 use Rattle.checkpoints.specs.Arrivals.{beginning_slot, arrival_slot, levels_reached}
 use Rattle.command.specs.Plain.{Command, load, give, forward, back, run, rerun, changer, add_break, drop_break, where_now, registers, words_from, outs_from, fits, core}
 use Rattle.command.specs.Reader.{Read, none, some, read_command}
 use Rattle.command.proofs.Picks.{pick_both}
 use Rattle.command.proofs.Spellings.{read_back}
 use Rattle.target.specs.Run.{Event, said, came, saw, next}
-use Rattle.machine.specs.Engine.{Plan, Write, puts, written, carried, cell, cells, phase, time, fed, steps_left, cursor, idle, ending, beginning, going_on, keeping, placing, telling, spacing, stride, arrived, set_off, kept_or, come_to, went, begin, begin_read, on_came, on_saw, on_next, planned, own}
+use Rattle.checkpoints.specs.Strides.{stride}
+use Rattle.machine.specs.Engine.{Plan, Write, puts, written, carried, cell, cells, phase, time, fed, steps_left, cursor, idle, ending, beginning, going_on, keeping, placing, telling, spacing, arrived, set_off, kept_or, come_to, went, begin, begin_read, on_came, on_saw, on_next, planned, own}
 use Rattle.machine.specs.Fair.{FairAct, Fair}
 use Rattle.machine.specs.Plans.{Plans, engine_of}
 use Rattle.machine.proofs.Memory.{after, cell_put, own_plans}
@@ -24,9 +25,7 @@ Leaves ws = (v : ℕ) → after ws fed v ≡ v
 -- no stride is longer than the spacing
 stride_few : (now left : ℕ) → stride now left ≤ spacing
 unfolding stride
-stride_few now left =
-    pick_both (λ a. a ≤ spacing) (ltb left (spacing - now % spacing)) left (spacing - now % spacing)
-    (λ l. omega (arith, ltb-true left (spacing - now % spacing) l)) (λ _. omega arith)
+stride_few now left = omega arith
 
 module _ (m : List ℕ) (size : length m ≡ cells) where
   pub stays : (ws : List Write) → Leaves ws → cell (written ws m) fed ≡ cell m fed

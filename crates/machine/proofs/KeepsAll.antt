@@ -1,7 +1,6 @@
 -- A plan of keeps is carried out by its numbers: a cell counts them, and nothing else of memory changes. What is done after them is left open.
 -- Assumes nothing.
 use Rattle.std.proofs.Common.{◌≡◌, ℕ, zero, suc, ◌+◌, ◌<◌, Bool, true, not, eqb, List, [], ◌∷◌, length, Some, None, Option, sym, refl, ap, ◌∙◌, subst, add-zero, mod-eq_of_lt, arith}
-use mathlib.Core.Option.{none, some}
 use Rattle.std.proofs.lemmas.Bool.{eqb-true, both_ways, not_from_false}
 use Rattle.command.specs.Plain.{Plain, moved}
 use Rattle.command.proofs.Picks.{by_test}
@@ -19,22 +18,22 @@ use Rattle.machine.proofs.Kept.{target_of, States}
 use Rattle.machine.proofs.Stands.{lasting}
 
 -- which slot an act by number speaks of
-pub no_slot : (o : Option ℕ) → none ≡ as_keep o → o ≡ None
+pub no_slot : (o : Option ℕ) → None ≡ as_keep o → o ≡ None
 unfolding as_keep
 no_slot None e = refl
 no_slot (Some k) e = cc
 
-pub the_slot : (o : Option ℕ) (j : ℕ) → some (keep j) ≡ as_keep o → o ≡ Some j
+pub the_slot : (o : Option ℕ) (j : ℕ) → Some (keep j) ≡ as_keep o → o ≡ Some j
 unfolding as_keep
 the_slot None j e = cc
 the_slot (Some k) j e = cc
 
-pub no_take : (o : Option ℕ) (k x : ℕ) → some (take k x) ≡ as_keep o → ⊥
+pub no_take : (o : Option ℕ) (k x : ℕ) → Some (take k x) ≡ as_keep o → ⊥
 unfolding as_keep
 no_take None k x e = let z : zero ≡ suc zero = cc in omega (arith, z)
 no_take (Some j) k x e = let z : zero ≡ suc zero = cc in omega (arith, z)
 
-pub no_go : (o : Option ℕ) (n : ℕ) → some (go n) ≡ as_keep o → ⊥
+pub no_go : (o : Option ℕ) (n : ℕ) → Some (go n) ≡ as_keep o → ⊥
 unfolding as_keep
 no_go None n e = let z : zero ≡ suc zero = cc in omega (arith, z)
 no_go (Some j) n e = let z : zero ≡ suc zero = cc in omega (arith, z)

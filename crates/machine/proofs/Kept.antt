@@ -1,6 +1,5 @@
 -- The states that are kept: each slot that a table speaks of holds the state at its time. Assumes nothing.
-use Rattle.std.proofs.Common.{◌≡◌, ℕ, zero, suc, ◌/◌, ◌≤◌, false, ◌⊎◌, List, [], ◌∷◌, sym, refl, ap, ◌∙◌, subst, inl, inr, ⊎_elim, arith}
-use mathlib.Core.Option.{none, some}
+use Rattle.std.proofs.Common.{◌≡◌, ℕ, zero, suc, ◌/◌, ◌≤◌, false, ◌⊎◌, List, [], ◌∷◌, sym, refl, ap, ◌∙◌, subst, inl, inr, ⊎_elim, arith, None, Some}
 use Rattle.std.proofs.lemmas.Bool.{ne_eqb, cases_eq}
 use Rattle.command.specs.Machine.{State, is_running, state_at, one, goes_on}
 use Rattle.command.specs.Plain.{Plain, at_time, moved, on_till}
@@ -20,9 +19,9 @@ target_of w sl = record { program = w.program; fed = w.ins; state = at_time w w.
 
 -- the slots hold the states at the table's times, at which it ran
 abbrev pub States : Plain → List Slot → Table → Type 0
-States w sl T = (k x : ℕ) → T k ≡ some x → (slot_of sl k ≡ at_time w x ∷ []) × Runs_at w x
+States w sl T = (k x : ℕ) → T k ≡ Some x → (slot_of sl k ≡ at_time w x ∷ []) × Runs_at w x
 
-pub states_none : (w : Plain) (sl : List Slot) → States w sl (λ _. none)
+pub states_none : (w : Plain) (sl : List Slot) → States w sl (λ _. None)
 states_none w sl k x e = let z : zero ≡ suc zero = cc in absurd (omega (arith, z))
 
 -- the slots once the state at a time is kept in slot j
@@ -33,7 +32,7 @@ pub states_kept : (w : Plain) (t : ℕ) (sl : List Slot) (T : Table) (j : ℕ) �
 states_kept w t sl T j r s k x h =
     ⊎_elim
     (λ (e : k ≡ j).
-    let f : some t ≡ some x = sym (put_here T j t) ∙ ap (put T j t) (sym e) ∙ h in
+    let f : Some t ≡ Some x = sym (put_here T j t) ∙ ap (put T j t) (sym e) ∙ h in
     let tx : t ≡ x = cc in (
       ap (slot_of (slots_with w t sl j)) e ∙ kept_found (target_of (moved w t) sl) j ∙ ap (λ (z : ℕ). at_time w z ∷ []) tx,
       subst (Runs_at w) tx r,

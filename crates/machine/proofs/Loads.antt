@@ -1,6 +1,5 @@
 -- The commands that begin anew and give: load and give. Assumes nothing.
-use Rattle.std.proofs.Common.{◌≡◌, ℕ, suc, ◌+◌, ◌<◌, Bool, true, false, ltb, List, [], ◌∷◌, ◌++◌, length, sym, refl, ap, ◌∙◌, subst, inr, mod-eq_of_lt, zero-add, arith, lit≤, length-append}
-use mathlib.Core.Option.{none}
+use Rattle.std.proofs.Common.{◌≡◌, ℕ, suc, ◌+◌, ◌<◌, Bool, true, false, ltb, List, [], ◌∷◌, ◌++◌, length, sym, refl, ap, ◌∙◌, subst, inr, mod-eq_of_lt, zero-add, arith, lit≤, length-append, None}
 use Rattle.std.proofs.lemmas.Bool.{and_parts, ltb-false}
 use Rattle.command.specs.Machine.{pick, Instr, State, state_at}
 use Rattle.command.specs.Plain.{load, give, fits, Plain, Turn, turn, no, yes_with, at_time, may_step}
@@ -39,7 +38,7 @@ load_obeyed is plans g left w sl m text h f q =
       (and_parts _ _ f).0,
       keeps_all plans 1 (Obeys left w (load is)) w₁ 0 (runs_first is []) m₁ s₁ beginning_slot (plan (puts phase idle ∷ []) done)
           (λ T. Ready T 0 ss) [] 0 next_is all_kept
-          (start 0 ss []) 0 (λ _. none) [] m₁ (omega (arith, start_count 0 ss, gaps₁.count)) (stand.starts ss (λ _. none) gaps₁)
+          (start 0 ss []) 0 (λ _. None) [] m₁ (omega (arith, start_count 0 ss, gaps₁.count)) (stand.starts ss (λ _. None) gaps₁)
           (λ j. begins_so ss j gaps₁ ∙ ap (λ (x : ℕ). as_keep (beginning_slot x)) (sym (zero-add j))) alike_same
           (cell_put ws m cursor h.lasts.sized refl) (states_none w₁ []),
     ))

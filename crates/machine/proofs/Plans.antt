@@ -7,7 +7,8 @@ use Rattle.command.specs.Plain.{load, give, forward, instr_spelled, core}
 use Rattle.command.specs.Reader.{some}
 use Rattle.command.proofs.Picks.{pick_true, pick_false}
 use Rattle.target.specs.Run.{feeds, goes, keeps, shows, refused}
-use Rattle.machine.specs.Engine.{Plan, Write, puts, plan, written, cell, limit, gaps_shut, stride, arrived, set_off, kept_or, come_to, went, begin, begin_read}
+use Rattle.checkpoints.specs.Strides.{stride}
+use Rattle.machine.specs.Engine.{Plan, Write, puts, plan, written, cell, limit, gaps_shut, arrived, set_off, kept_or, come_to, went, begin, begin_read}
 use Rattle.machine.specs.Entry.{on_row, ActTold, Carries}
 use Rattle.machine.specs.declared.acts.Told.{Told}
 use Rattle.machine.specs.declared.acts.Told.TheVariants.{Starts, Feeds, Goes, Keeps, No}

@@ -9,7 +9,8 @@ use Rattle.command.proofs.PastStays.{Runs_at}
 use Rattle.command.proofs.Times.{on_till_runs}
 use Rattle.target.specs.Run.{Event, came, next, goes, Slot, Ran, Came, world, with_state, going}
 use Rattle.checkpoints.specs.Numbers.{most_time}
-use Rattle.machine.specs.Engine.{Write, puts, written, plan, planned, on_came, went, come_to, arrived, set_off, stride, spacing, cell, cells, limit, phase, time, steps_left, going_on}
+use Rattle.checkpoints.specs.Strides.{stride}
+use Rattle.machine.specs.Engine.{Write, puts, written, plan, planned, on_came, went, come_to, arrived, set_off, spacing, cell, cells, limit, phase, time, steps_left, going_on}
 use Rattle.machine.specs.Plans.{Plans, Agrees}
 use Rattle.machine.proofs.Memory.{cell_put, alike_written}
 use Rattle.machine.proofs.Runs.{Ends, ends_within, acts}

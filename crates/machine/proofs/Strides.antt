@@ -1,15 +1,15 @@
 -- A stride: where going on by some of the steps that are left comes to, and how many are left then. Assumes nothing.
-use Rattle.std.proofs.Common.{◌≡◌, ℕ, suc, ◌+◌, ◌-◌, ◌%◌, ◌<◌, ◌≤◌, Bool, true, false, not, ◌&&◌, eqb, ltb, [], sym, refl, ap, ◌∙◌, subst, ⊎_elim, mod-lt, arith, lit<}
+use Rattle.std.proofs.Common.{◌≡◌, ℕ, suc, ◌+◌, ◌-◌, ◌%◌, ◌<◌, ◌≤◌, Bool, true, false, not, ◌&&◌, eqb, ltb, [], sym, refl, ap, ◌∙◌, subst, ⊎_elim, arith}
 use Rattle.std.proofs.lemmas.Bool.{ltb-true, ltb-false, ne_eqb, false≢true}
 use Rattle.command.specs.Machine.{pick, goes_on}
 use Rattle.command.specs.Plain.{Plain, at_time, on_till, status_number}
-use Rattle.command.proofs.Picks.{pick_both}
 use Rattle.command.proofs.Running.{reason_not_0}
 use Rattle.command.proofs.Stops.{on_stop}
 use Rattle.command.proofs.Times.{never_stopped, on_till_stuck, forward_cut}
 use Rattle.target.specs.Run.{Came, came_to, going}
 use Rattle.target.proofs.GoingTill.{came_at, going_till}
-use Rattle.machine.specs.Engine.{stride, spacing}
+use Rattle.checkpoints.specs.Strides.{stride}
+use Rattle.machine.specs.Engine.{spacing}
 
 -- how many of n steps are left after it came somewhere
 abbrev pub left_after : ℕ → Came → ℕ
@@ -78,7 +78,4 @@ module _ (w : Plain) (t a n : ℕ) (most : a ≤ n) where
 -- a stride is at least one step, no more than are left, and passes no multiple of the spacing
 pub stride_long : (t n : ℕ) → (n ≡ 0 → ⊥) → (1 ≤ stride t n) × (stride t n ≤ n) × (stride t n ≤ spacing - t % spacing)
 unfolding stride
-stride_long t n ne =
-    pick_both (λ (a : ℕ). (1 ≤ a) × (a ≤ n) × (a ≤ spacing - t % spacing)) (ltb n (spacing - t % spacing)) n (spacing - t % spacing)
-    (λ e. (omega (arith, ne), omega arith, omega (arith, ltb-true n (spacing - t % spacing) e)))
-    (λ e. (omega (arith, mod-lt t {m = spacing} (lit< tt)), omega (arith, ltb-false n (spacing - t % spacing) e), omega arith))
+stride_long t n ne = (omega (arith, ne), omega arith, omega arith)

@@ -4,6 +4,7 @@ use Rattle.command.specs.Machine.{pick, flat, eight, smaller}
 use Rattle.command.specs.Plain.{Command, load, give, forward, back, run, rerun, changer, add_break, drop_break, where_now, registers, words_from, outs_from, core}
 use Rattle.command.specs.Reader.{Read, none, some, read_command}
 use Rattle.target.specs.Run.{Engine, Event, said, came, saw, next, Act, starts, feeds, goes, keeps, looks_regs, looks_words, looks_outs, looks_where, shows, done, refused, Step}
+use Rattle.checkpoints.specs.Strides.{stride}
 use Rattle.checkpoints.specs.Arrivals.{beginning_slot, arrival_slot, levels_reached}
 
 -- MEMORY. A cell holds a number below 2^64; a cell that isn't there reads as 0.
@@ -86,9 +87,6 @@ unexpected = plan [] (refused 1)
 -- a going on passes no multiple of this
 abbrev pub spacing : ℕ
 spacing = 4096
-
-unfoldable pub stride : ℕ → ℕ → ℕ
-stride now left = smaller left (spacing - now % spacing)
 
 -- at a time, with so many steps left; ws is what else is to be written
 unfoldable pub arrived : List Write → ℕ → Plan

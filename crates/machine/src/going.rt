@@ -1,7 +1,7 @@
 // Going on in strides, and what is kept on the way.
 ghost use Rattle.std.specs.Prelude.{◌≡◌, ◌-◌, ◌%◌, ◌≤◌, not, ◌&&◌, [], ◌==◌};
 ghost use Rattle.command.specs.Machine.{pick};
-ghost use Rattle.machine.specs.Engine.{written, gaps_shut, arrived, set_off, come_to, went, stride as stride_of};
+ghost use Rattle.machine.specs.Engine.{written, gaps_shut, arrived, set_off, come_to, went};
 ghost use Rattle.machine.specs.Lent.{Does};
 
 use crate::acts::Told;
@@ -11,14 +11,7 @@ use crate::lent::Lent;
 use crate::phase::Phase;
 use crate::row::{put_front, show};
 use checkpoints::numbers::STRIDE;
-use checkpoints::{arrival, levels_reached};
-
-// How far it goes on at once: past no multiple of the stride.
-fn stride(here: u64, left: u64) -> u64
-    ensures { result ≡ stride_of here left }
-{
-    left.min(STRIDE - here % STRIDE)
-}
+use checkpoints::{arrival, levels_reached, stride};
 
 // The gaps of the lowest levels become 0.
 fn shut_gaps(memory: &mut [u64; CELLS], levels: usize)
