@@ -16,15 +16,6 @@ row_behind out xs ys n e =
     let three : drop (length ys) rest ≡ drop (length (xs ++ ys)) out = drop-drop (length ys) (length xs) out ∙ sym (ap (λ k. drop k out) (length-append xs ys)) in
     rw (one, two, three) (sym (append_assoc xs ys (drop (length (xs ++ ys)) out)))
 
--- one more number behind those that are there
-pub row_push : (xs out : List ℕ) (n v : ℕ) → length xs ≡ n → n < length out → set (on_row xs out) n v ≡ on_row (xs ++ v ∷ []) out
-row_push [] [] n v e h = absurd (omega arith)
-row_push [] (x ∷ out) zero v e h = refl
-row_push [] (x ∷ out) (suc n) v e h = absurd (omega arith)
-row_push (x ∷ xs) [] n v e h = absurd (omega arith)
-row_push (x ∷ xs) (y ∷ out) zero v e h = absurd (omega arith)
-row_push (x ∷ xs) (y ∷ out) (suc n) v e h = ap (λ r. x ∷ r) (row_push xs out n v (omega arith) (omega arith))
-
 -- the bytes of numbers
 length_in_bytes : (k n : ℕ) (bs : List ℕ) → length (in_bytes k n bs) ≡ k + length bs
 unfolding in_bytes
