@@ -1,4 +1,4 @@
-use Rattle.std.proofs.Common.{drop, is_some, refl, ap, ◌∙◌, arith}
+use Rattle.std.proofs.Common.{drop, is_some, refl, ap, arith}
 use Rattle.std.proofs.lemmas.List.{length-take-le}
 use Rattle.command.specs.Told.{numbers_in}
 use Rattle.machine.proofs.Texts.{give_text, give_few, word_taken, number_placed, numbers_placed}

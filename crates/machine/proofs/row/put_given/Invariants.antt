@@ -2,7 +2,6 @@ use Rattle.std.proofs.Common.{◌≡◌, take, drop}
 use Rattle.command.specs.Machine.{eight, flat}
 use Rattle.command.specs.Taken.{left}
 use Rattle.command.specs.Told.{numbers_in}
-use Rattle.machine.specs.Entry.{on_row}
 use Rattle.machine.proofs.row.put_given.Given as goal
 
 abbrev pub invariant-loop-place : goal.invariant-loop-place
