@@ -1,5 +1,5 @@
 -- Laws of rows: what is written behind what was written, and the bytes of numbers.
-use Rattle.std.proofs.Common.{◌≡◌, ℕ, zero, suc, ◌+◌, ◌*◌, ◌/◌, ◌%◌, ◌<◌, ◌≤◌, List, [], ◌∷◌, ◌++◌, length, get_or, take, drop, set, sym, refl, ap, ◌∙◌, append_assoc, arith, length-append}
+use Rattle.std.proofs.Common.{◌≡◌, ℕ, zero, suc, ◌+◌, ◌*◌, ◌/◌, ◌%◌, ◌<◌, ◌≤◌, List, [], ◌∷◌, ◌++◌, length, get_or, take, drop, sym, refl, ap, ◌∙◌, append_assoc, arith, length-append}
 use Rattle.std.proofs.lemmas.List.{length-take-le, take_at, drop_at, drop-drop, take_more, append-nil, take_all}
 use Rattle.command.specs.Machine.{eight, in_bytes, flat}
 use Rattle.target.specs.Run.{shows}
@@ -15,15 +15,6 @@ row_behind out xs ys n e =
     let two : drop n (xs ++ rest) ≡ rest = drop_at xs rest n e in
     let three : drop (length ys) rest ≡ drop (length (xs ++ ys)) out = drop-drop (length ys) (length xs) out ∙ sym (ap (λ k. drop k out) (length-append xs ys)) in
     rw (one, two, three) (sym (append_assoc xs ys (drop (length (xs ++ ys)) out)))
-
--- one more number behind those that are there
-pub row_push : (xs out : List ℕ) (n v : ℕ) → length xs ≡ n → n < length out → set (on_row xs out) n v ≡ on_row (xs ++ v ∷ []) out
-row_push [] [] n v e h = absurd (omega arith)
-row_push [] (x ∷ out) zero v e h = refl
-row_push [] (x ∷ out) (suc n) v e h = absurd (omega arith)
-row_push (x ∷ xs) [] n v e h = absurd (omega arith)
-row_push (x ∷ xs) (y ∷ out) zero v e h = absurd (omega arith)
-row_push (x ∷ xs) (y ∷ out) (suc n) v e h = ap (λ r. x ∷ r) (row_push xs out n v (omega arith) (omega arith))
 
 -- the bytes of numbers
 length_in_bytes : (k n : ℕ) (bs : List ℕ) → length (in_bytes k n bs) ≡ k + length bs

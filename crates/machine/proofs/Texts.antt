@@ -1,15 +1,16 @@
 -- What stands where in a text that says a load or a give.
-use Rattle.std.proofs.Common.{◌≡◌, ℕ, suc, ◌+◌, ◌-◌, ◌*◌, ◌<◌, ◌≤◌, true, leb, List, [], ◌∷◌, ◌++◌, length, get_or, take, drop, set, sym, refl, ap, ◌∙◌, arith, length-append}
-use Rattle.std.proofs.lemmas.List.{drop_at, at_drop_more, take_more, length-take-le}
+use Rattle.std.proofs.Common.{◌≡◌, ℕ, suc, ◌+◌, ◌-◌, ◌*◌, ◌<◌, ◌≤◌, true, leb, List, [], ◌∷◌, ◌++◌, length, get_or, take, drop, set, Some, None, Option, sym, refl, ap, ◌∙◌, subst, arith, length-append}
+use Rattle.std.proofs.lemmas.List.{drop_at, at_drop_more, take_more, take_more_set, take_all}
 use Rattle.std.proofs.lemmas.Slice.{between_to_end}
 use Rattle.std.proofs.lemmas.Bool.{and_parts, leb-true}
 use Rattle.command.specs.Machine.{eight, flat, every, Instr, load_number, copy, reckon, read, write, jump, jump_if, call, return, take_in, put_out, halt}
 use Rattle.command.specs.Plain.{load, give, spelled, fits, instr_spelled, an_instr, a_word}
-use Rattle.command.specs.Reader.{Says, got, nothing, word}
+use Rattle.command.specs.Reader.{Says, got, word}
+use Rattle.command.specs.Taken.{Takes, itself}
 use Rattle.command.proofs.Digits.{exact_below}
 use Rattle.command.proofs.Every.{every_at}
 use Rattle.machine.specs.Entry.{on_row}
-use Rattle.machine.proofs.Rows.{length_eight, row_push}
+use Rattle.machine.proofs.Rows.{length_eight}
 
 -- the part of a text behind its first byte and a count, as the code has it
 abbrev pub behind : List ℕ → List ℕ
@@ -62,7 +63,7 @@ unfolding fits
 give_words t vs s = (and_parts (leb (length vs) 4096) (every a_word vs) s.1).1
 
 -- a loop that takes the numbers off one by one
-pub word_next : (t vs : List ℕ) (i : ℕ) (rest : List ℕ) → Says t (give vs) → i < length vs → rest ≡ flat eight (drop i vs) →
+word_next : (t vs : List ℕ) (i : ℕ) (rest : List ℕ) → Says t (give vs) → i < length vs → rest ≡ flat eight (drop i vs) →
     word rest ≡ got (get_or vs i 0) (flat eight (drop (i + 1) vs))
 word_next t vs i rest s h e =
     let v : ℕ = get_or vs i 0 in
@@ -70,18 +71,19 @@ word_next t vs i rest s h e =
     let small : a_word v ≡ true = every_at a_word vs i 0 (give_words t vs s) refl in
     ap word (e ∙ at_drop_more (flat eight) vs i 0 h) ∙ (exact_below 4294967296 (omega arith)).forth v u small
 
-pub word_never : (t vs : List ℕ) (i : ℕ) (rest : List ℕ) → Says t (give vs) → i < length vs → rest ≡ flat eight (drop i vs) → word rest ≡ nothing → ⊥
-word_never t vs i rest s h e n =
-    let f : nothing ≡ got (get_or vs i 0) (flat eight (drop (i + 1) vs)) = sym n ∙ word_next t vs i rest s h e in
-    let z : ◌≡◌ {A = ℕ} 0 1 = cc in
-    omega arith
+pub word_taken : (t vs : List ℕ) (i : ℕ) (rest rest₁ : List ℕ) (o : Option ℕ) → Says t (give vs) → i < length vs → rest ≡ flat eight (drop i vs) → Takes itself (word rest) o rest₁ →
+    (o ≡ Some (get_or vs i 0)) × (rest₁ ≡ flat eight (drop (i + 1) vs))
+word_taken t vs i rest rest₁ o s h e w = go o (subst (λ g. Takes itself g o rest₁) (word_next t vs i rest s h e) w)
+  where
+    go : (o : Option ℕ) → Takes itself (got (get_or vs i 0) (flat eight (drop (i + 1) vs))) o rest₁ → (o ≡ Some (get_or vs i 0)) × (rest₁ ≡ flat eight (drop (i + 1) vs))
+    go None w = let z : ◌≡◌ {A = ℕ} 0 1 = cc in absurd (omega arith)
+    go (Some n) w = (cc, cc)
 
-pub word_taken : (t vs out row : List ℕ) (i : ℕ) (rest rest₁ : List ℕ) (n : ℕ) → Says t (give vs) → i < length vs → length vs ≤ length out → rest ≡ flat eight (drop i vs) →
-    word rest ≡ got n rest₁ → row ≡ on_row (take i vs) out → (rest₁ ≡ flat eight (drop (i + 1) vs)) × (set row i n ≡ on_row (take (i + 1) vs) out)
-word_taken t vs out row i rest rest₁ n s h l e w r =
-    let v : ℕ = get_or vs i 0 in
-    let f : got n rest₁ ≡ got v (flat eight (drop (i + 1) vs)) = sym w ∙ word_next t vs i rest s h e in
-    let a : n ≡ v = cc in
-    let b : rest₁ ≡ flat eight (drop (i + 1) vs) = cc in
-    let k : length (take i vs) ≡ i = length-take-le i vs (omega arith) in
-    (b, ap (λ x. set x i n) r ∙ (ap (set (on_row (take i vs) out) i) a ∙ (row_push (take i vs) out i v k (omega arith) ∙ ap (λ xs. on_row xs out) (sym (take_more vs i 0 h)))))
+-- one more number in its place
+pub number_placed : (vs places : List ℕ) (i n : ℕ) (o : Option ℕ) → i < length vs → i < length places → o ≡ Some n → o ≡ Some (get_or vs i 0) → take i places ≡ take i vs → take (i + 1) (set places i n) ≡ take (i + 1) vs
+number_placed vs places i n o h k some is p = let e : n ≡ get_or vs i 0 = cc in take_more_set places i n k ∙ (ap (λ x. x ++ n ∷ []) p ∙ (ap (λ x. take i vs ++ x ∷ []) e ∙ sym (take_more vs i 0 h)))
+
+pub numbers_placed : (vs places row : List ℕ) (i n : ℕ) → n ≡ length vs → length places ≡ n → n ≤ i → take i places ≡ take i vs → places ++ drop n row ≡ on_row vs row
+numbers_placed vs places row i n e l h p =
+    let same : places ≡ vs = sym (take_all i places (omega (arith, l, h))) ∙ (p ∙ take_all i vs (omega (arith, e, h))) in
+    ap (λ x. x ++ drop n row) same ∙ ap (λ k. vs ++ drop k row) e

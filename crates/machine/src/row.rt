@@ -38,10 +38,7 @@ pub fn put_given(row: &mut [u64; ROW], text: &[u64], count: u64)
     ensures { row.new ≡ on_row (numbers_in (drop 1 text.now)) row.old }
 {
     let mut cursor = Cursor { rest: &text[9..] };
-    for i in 0..count {
-        let Some(number) = cursor.word() else {
-            unreachable()
-        };
-        row[i as usize] = number as u64;
+    for place in &mut row[..count as usize] {
+        *place = cursor.word().unwrap() as u64;
     }
 }
