@@ -1,14 +1,11 @@
 -- What a processor's methods promise, from what they make of each target. Assumes nothing.
-use Rattle.std.proofs.Common.{◌≡◌, ℕ, suc, ◌+◌, ◌<◌, ◌≤◌, Bool, List, [], ◌∷◌, ◌++◌, length, take, drop, refl, ap, add-zero}
+use Rattle.std.proofs.Common.{◌≡◌, ℕ, ◌+◌, ◌<◌, ◌≤◌, Bool, List, [], ◌∷◌, ◌++◌, length, take, drop, refl, ap, add-zero}
 use Rattle.std.proofs.lemmas.Bool.{le-leb, lt-leb, lt-ltb, le-ltb}
-use Rattle.command.specs.Machine.{each, Instr, State, step}
+use Rattle.command.specs.Machine.{Instr, State, step}
 use Rattle.command.specs.Plain.{Break, status_number}
+pub use Rattle.command.proofs.Writes.{each_length}
 use Rattle.target.specs.Run.{came, saw, next, starts, feeds, goes, keeps, takes_up, looks_regs, looks_words, looks_outs, looks_where, Target, Came, world, fresh_target, with_state, keep_in, slot_of, words_of, taken_up, going, one_act}
 use Rattle.target.specs.Acts.{Does, Refuses}
-
-pub each_length : {A B : Type 0} (f : A → B) (xs : List A) → length (each f xs) ≡ length xs
-each_length f [] = refl
-each_length f (x ∷ xs) = ap suc (each_length f xs)
 
 -- a target with more to come in
 abbrev pub fed_with : Target → List ℕ → Target
