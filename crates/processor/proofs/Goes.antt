@@ -6,7 +6,7 @@ use Rattle.target.specs.Run.{going, came_to}
 use Rattle.processor.specs.declared.state.State.{State}
 use Rattle.target.specs.declared.answers.Why.{Why}
 use Rattle.target.specs.declared.answers.Why.TheVariants.{Halted, Waits, NoInstr, NoWord, ByZero}
-use Rattle.processor.specs.declared.steps.Overwritten.{Overwritten}
+use Rattle.processor.specs.declared.writing.Overwritten.{Overwritten}
 use Rattle.target.specs.Whys.{status_of}
 use Rattle.processor.specs.Like.{Base, Like, OnTo, Stays, CameTo}
 

@@ -7,6 +7,7 @@ use Rattle.command.specs.declared.code.Instr.{Instr as Code}
 use Rattle.command.specs.Codes.{code, codes}
 use Rattle.processor.specs.declared.state.State.{State}
 use Rattle.processor.specs.declared.words.Words.{Words}
+use Rattle.processor.specs.declared.writing.Overwritten.{Overwritten}
 use Rattle.processor.specs.Like.{Base, Like, Ready, OnTo, Stays, held, laid}
 use Rattle.processor.proofs.Writes.{put_set, put_like, put_was}
 
@@ -118,14 +119,14 @@ module _ (b : Base) (m : State) (next : ℕ) (s : Model) (r : Ready b m next s) 
   unfolding does
   reads_on m₁ ins k j n v h e o = simp (l.registers, lt-ltb _ _ h, l.words, sym e) (simp l.registers at o)
 
-  pub writes_on : (w : Words) (ins : List ℕ) (k j n p old : ℕ) → p < 65536 → p ≡ get_or m.regs j 0 + n
-      → old ≡ get_or (held m) p 0
+  pub writes_on : (w : Words) (ins : List ℕ) (k j n p : ℕ) (o : Overwritten) → p < 65536 → p ≡ get_or m.regs j 0 + n
+      → o ≡ record { place = p; before = get_or (held m) p 0 }
       → vec_items w.items ≡ set (held m) p (get_or m.regs k 0)
       → w.pages ≡ m.words.pages
-      → OnTo b (record { at = next; regs = m.regs; words = w; taken = m.taken; put = m.put; log = m.log }) (Some (record { place = p; before = old })) s (does s ins (write k j n))
+      → OnTo b (record { at = next; regs = m.regs; words = w; taken = m.taken; put = m.put; log = m.log }) (Some o) s (does s ins (write k j n))
   unfolding does
-  writes_on w ins k j n p old h q e f g =
-      simp (l.registers, sym q, lt-ltb _ _ h)
+  writes_on w ins k j n p o h q e f g =
+      simp (l.registers, sym q, lt-ltb _ _ h, e)
       (record {
         like = record {
           place = next_place;
@@ -137,7 +138,7 @@ module _ (b : Base) (m : State) (next : ℕ) (s : Model) (r : Ready b m next s) 
           pages = g ∙ l.pages;
           runs = l.runs;
         };
-        was = put_was s.words _ _ old (e ∙ sym (l.words _));
+        was = put_was s.words _ _ _ (sym (l.words _));
       })
 
   pub jumps : (ins : List ℕ) (c k j n at : ℕ) (t : Bool) → t ≡ compared c (get_or m.regs k 0) (get_or m.regs j 0)
@@ -159,16 +160,16 @@ module _ (b : Base) (m : State) (next : ℕ) (s : Model) (r : Ready b m next s) 
         was = λ a. refl;
       }
 
-  pub calls_on : (w : Words) (ins : List ℕ) (k p old : ℕ) → p < 65536 → p + 1 ≡ get_or m.regs 15 0
-      → old ≡ get_or (held m) p 0
+  pub calls_on : (w : Words) (ins : List ℕ) (k p : ℕ) (o : Overwritten) → p < 65536 → p + 1 ≡ get_or m.regs 15 0
+      → o ≡ record { place = p; before = get_or (held m) p 0 }
       → vec_items w.items ≡ set (held m) p next
       → w.pages ≡ m.words.pages
-      → OnTo b (record { at = k; regs = set m.regs 15 p; words = w; taken = m.taken; put = m.put; log = m.log }) (Some (record { place = p; before = old })) s (does s ins (call k))
+      → OnTo b (record { at = k; regs = set m.regs 15 p; words = w; taken = m.taken; put = m.put; log = m.log }) (Some o) s (does s ins (call k))
   unfolding does
-  calls_on w ins k p old h q e f g =
+  calls_on w ins k p o h q e f g =
       let low : 1 ≤ get_or m.regs 15 0 = omega arith in
       let d : get_or m.regs 15 0 - 1 ≡ p = omega arith in
-      simp (l.registers, le-leb _ _ low, d, lt-ltb _ _ h)
+      simp (l.registers, le-leb _ _ low, d, lt-ltb _ _ h, e)
       (record {
         like = record {
           place = refl;
@@ -180,7 +181,7 @@ module _ (b : Base) (m : State) (next : ℕ) (s : Model) (r : Ready b m next s) 
           pages = g ∙ l.pages;
           runs = l.runs;
         };
-        was = put_was s.words _ _ old (e ∙ sym (l.words _));
+        was = put_was s.words _ _ _ (sym (l.words _));
       })
 
   pub takes_on : (ins : List ℕ) (k v : ℕ) → m.taken < length ins → v ≡ get_or ins m.taken 0

@@ -7,7 +7,7 @@ use Rattle.target.specs.Run.{Came as Far}
 use Rattle.target.specs.Whys.{status_of, why_number}
 use Rattle.processor.specs.declared.pages.Pages.{Pages}
 use Rattle.processor.specs.declared.state.State.{State}
-use Rattle.processor.specs.declared.steps.Overwritten.{Overwritten}
+use Rattle.processor.specs.declared.writing.Overwritten.{Overwritten}
 
 abbrev pub held : State → List ℕ
 held m = vec_items m.words.items

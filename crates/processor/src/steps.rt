@@ -5,15 +5,9 @@ ghost use Rattle.command.specs.Codes.{code, codes, op_number, comparison_number}
 ghost use Rattle.processor.specs.Like.{Base, Like, Ready, After, OnTo, Room, laid};
 
 use crate::state::State;
+use crate::writing::Overwritten;
 use command::code::{Comparison, Instr, Op, Reg};
 use target::answers::Why;
-
-// A word that a step wrote, and what it held before, so that whether it changed costs no second look.
-#[derive(Clone, Copy)]
-pub(crate) struct Overwritten {
-    pub(crate) place: usize,
-    pub(crate) before: u32,
-}
 
 // What came of a step: it went on, perhaps writing a word; or why not.
 pub(crate) type Went = Result<Option<Overwritten>, Why>;
@@ -77,10 +71,9 @@ impl State {
         ensures room { Room self.old self.new }
     {
         let place = self.word_place(to, n)?;
-        let before = self.words.get(place);
-        self.words.put(place, self.regs[k.number as usize]);
+        let word = self.words.put(place, self.regs[k.number as usize]);
         self.at = next;
-        Ok(Some(Overwritten { place, before }))
+        Ok(Some(word))
     }
 
     fn jumps_if(&mut self, next: u32, comparison: Comparison, k: Reg, j: Reg, n: u16) -> Went
@@ -104,11 +97,10 @@ impl State {
         ensures room { Room self.old self.new }
     {
         let place = self.call_place()?;
-        let before = self.words.get(place);
-        self.words.put(place, next);
+        let word = self.words.put(place, next);
         self.regs[15] = place as u32;
         self.at = k as u32;
-        Ok(Some(Overwritten { place, before }))
+        Ok(Some(word))
     }
 
     fn returns(&mut self) -> Went

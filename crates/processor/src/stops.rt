@@ -6,7 +6,8 @@ ghost use Rattle.command.specs.Breaks.{test_of, tests_of, break_of, breaks_of};
 ghost use Rattle.processor.specs.Like.{Base, Like, OnTo};
 
 use crate::state::State;
-use crate::steps::{Overwritten, compare};
+use crate::steps::compare;
+use crate::writing::Overwritten;
 use command::breaks::{Break, Subject, Test};
 
 impl State {

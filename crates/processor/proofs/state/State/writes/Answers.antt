@@ -21,7 +21,7 @@ returns c =
     let h = c.in_ok-place.ensures in
     record {
       after = λ b s ins r.
-          writes_on b c.args.self.now c.args.next s r c.put.new.self ins c.args.k.number c.args.to.number c.args.n c.in_ok-place.place c.get-before.result h.1 h.0
-          c.get-before.ensures c.put.ensures.items c.put.ensures.pages;
+          writes_on b c.args.self.now c.args.next s r c.put-word.new.self ins c.args.k.number c.args.to.number c.args.n c.in_ok-place.place _ h.1 h.0 c.put-word.ensures.word
+          c.put-word.ensures.items c.put-word.ensures.pages;
       room = record { cap = omega arith; put = omega arith };
     }
