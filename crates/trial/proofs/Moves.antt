@@ -5,7 +5,7 @@ use Rattle.std.proofs.lemmas.Bool.{cases_lt, eq-eqb, true≢false}
 use Rattle.std.specs.List.{AllWithin, HoldsAt}
 use Rattle.std.specs.Option.{MatchOption}
 use Rattle.command.specs.Machine.{any, each, those, word_at, Instr, State as Model, state_at, goes_on, is_running, step}
-use Rattle.command.specs.Plain.{Plain, at_time, moved, holds, holds_at, changes_at, last_change}
+use Rattle.command.specs.Plain.{Plain, Break, at_time, moved, holds, holds_at, changes_at, last_change}
 use Rattle.command.specs.Codes.{codes}
 use Rattle.command.specs.Statements.{PastSame}
 use Rattle.command.proofs.MoreInput.{past_same}
@@ -49,7 +49,7 @@ not_first a m e f =
     true≢false (g ∙ ap not (eq-eqb (word_at s.words a) _ refl))
 
 -- one moment more
-pub longer : (is : List Instr) (ins : List ℕ) (past : List Moment) (m : Moment) (t : ℕ) → length past ≡ suc t → History is ins past
+longer : (is : List Instr) (ins : List ℕ) (past : List Moment) (m : Moment) (t : ℕ) → length past ≡ suc t → History is ins past
     → Came m (state_at is ins t) (state_at is ins (suc t)) → History is ins (past ++ m ∷ [])
 longer is ins past m t e h c =
     record {
@@ -68,7 +68,7 @@ module _ (is : List Code) (fed : List ℕ) (past : List Moment) (t : ℕ) (ws : 
   pub here : (d : Moment) → At (get_or past t d) (at_time w t)
   here d = moment_at w.program w.ins past k.history t d k.known
 
-  pub came_to : (d : Moment) (u v : ℕ) → v ≡ suc u → v < length past → Came (get_or past v d) (at_time w u) (at_time w v)
+  came_to : (d : Moment) (u v : ℕ) → v ≡ suc u → v < length past → Came (get_or past v d) (at_time w u) (at_time w v)
   came_to d u v e lt = subst (λ z. Came (get_or past z d) (at_time w u) (at_time w z)) (sym e) (k.history.steps u d (omega arith))
 
   pub came : (d : Moment) → 0 < t → Came (get_or past t d) (at_time w (t - 1)) (at_time w t)
@@ -129,7 +129,7 @@ module _ (is : List Code) (fed : List ℕ) (past : List Moment) (t : ℕ) (ws : 
   goes lt = rw k.time (goes_at w.program w.ins past k.history t (omega arith))
 
   -- elsewhere in the same history
-  pub elsewhere : (u v : ℕ) (xs : List ℕ) → u ≡ v → v < length past → Words xs (at_time w v) → Holds is fed past v xs bs n (moved w u)
+  elsewhere : (u v : ℕ) (xs : List ℕ) → u ≡ v → v < length past → Words xs (at_time w v) → Holds is fed past v xs bs n (moved w u)
   elsewhere u v xs e lt h =
       record { program = k.program; ins = k.ins; time = e; breaks = k.breaks; next = k.next; known = lt; history = k.history; words = h }
 
@@ -242,30 +242,16 @@ module _ (is : List Code) (fed : List ℕ) (past : List Moment) (t : ℕ) (ws : 
         words = subst (λ u. Words ws (state_at ps [] u)) (sym z) h;
       }
 
+  -- the same with other breaks
+  other_breaks : (cs : List Numbered) (u : ℕ) (asks : List Break) (v : ℕ) → asks ≡ each break_numbered cs → v ≡ u
+      → Holds is fed past t ws cs u (record { program = w.program; ins = w.ins; now = w.now; breaks = asks; next = v })
+  other_breaks cs u asks v e f = record { program = k.program; ins = k.ins; time = k.time; breaks = e; next = f; known = k.known; history = k.history; words = k.words }
+
   pub with_break : (b : Numbered) (cs : List Numbered) (u : ℕ) → b.number ≡ n → u ≡ n + 1 → cs ≡ bs ++ b ∷ []
       → Holds is fed past t ws cs u (record { program = w.program; ins = w.ins; now = w.now; breaks = w.breaks ++ record { id = w.next; place = (break_numbered b).place; tests = (break_numbered b).tests; changed = (break_numbered b).changed } ∷ []; next = suc w.next })
   with_break b cs u en eu ec =
-      record {
-        program = k.program;
-        ins = k.ins;
-        time = k.time;
-        breaks = rw (k.next, sym en, k.breaks) (sym (ap (each break_numbered) ec ∙ each_push break_numbered bs b));
-        next = ap suc k.next ∙ sym (eu ∙ add-one n);
-        known = k.known;
-        history = k.history;
-        words = k.words;
-      }
+      other_breaks cs u _ _ (rw (k.next, sym en, k.breaks) (sym (ap (each break_numbered) ec ∙ each_push break_numbered bs b))) (ap suc k.next ∙ sym (eu ∙ add-one n))
 
   pub without_break : (i : ℕ) (cs : List Numbered) → each break_numbered cs ≡ those (λ b. not (eqb b.id i)) (each break_numbered bs)
       → Holds is fed past t ws cs n (record { program = w.program; ins = w.ins; now = w.now; breaks = those (λ b. not (eqb b.id i)) w.breaks; next = w.next })
-  without_break i cs e =
-      record {
-        program = k.program;
-        ins = k.ins;
-        time = k.time;
-        breaks = ap (those (λ b. not (eqb b.id i))) k.breaks ∙ sym e;
-        next = k.next;
-        known = k.known;
-        history = k.history;
-        words = k.words;
-      }
+  without_break i cs e = other_breaks cs n _ _ (ap (those (λ b. not (eqb b.id i))) k.breaks ∙ sym e) k.next

@@ -10,7 +10,7 @@ use Rattle.trial.specs.declared.moments.Moment.{Moment}
 use Rattle.trial.specs.Moments.{Words, first_moment}
 use Rattle.trial.specs.Kept.{History}
 
-pub flat_push : {A B : Type 0} (f : A → List B) (xs : List A) (x : A) → flat f (xs ++ x ∷ []) ≡ flat f xs ++ f x
+flat_push : {A B : Type 0} (f : A → List B) (xs : List A) (x : A) → flat f (xs ++ x ∷ []) ≡ flat f xs ++ f x
 flat_push f [] x = append-nil (f x)
 flat_push f (y ∷ ys) x = ap (λ z. f y ++ z) (flat_push f ys x) ∙ sym (append_assoc (f y) (flat f ys) (f x))
 

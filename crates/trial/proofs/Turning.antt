@@ -7,9 +7,6 @@ use Rattle.command.specs.Plain.{Plain, Break, Command, Turn as Ended, load, give
 use Rattle.command.proofs.Picks.{by_test}
 use Rattle.std.proofs.lemmas.Bool.{ltb-true, ltb-false, lt-ltb, le-ltb, le-leb, lt-leb}
 use Rattle.command.proofs.PastStays.{given}
-use Rattle.command.specs.Told.{meant}
-use Rattle.command.specs.declared.commands.Order.{Order}
-use Rattle.command.specs.declared.commands.Order.TheVariants.{Forward, Back, Run, Rerun, Changer, Break as StopAt, Drop, Where, Registers, Words, Outs}
 use Rattle.trial.specs.declared.debugger.Trial.{Trial}
 use Rattle.trial.specs.declared.turns.Refusal.{Refusal}
 use Rattle.trial.specs.declared.turns.Refusal.TheVariants.{NoCommand, NoSuch, Full}
@@ -135,19 +132,3 @@ module _ (w : Plain) (i : ℕ) where
       ≡ yes_with [] (record { program = w.program; ins = w.ins; now = w.now; breaks = those (λ b. not (eqb b.id i)) w.breaks; next = w.next })
   unfolding turn
   turn_drop h = rw h refl
-
--- a command that moves nothing makes no step
-pub others_free : (w : Plain) (o : Order) (t : Ended) → ((n : ℕ) → o ≡ Forward n → ⊥) → ((n : ℕ) → o ≡ Back n → ⊥) → ((n : ℕ) → o ≡ Run n → ⊥) → ((n : ℕ) → o ≡ Rerun n → ⊥)
-    → ((a : ℕ) → o ≡ Changer a → ⊥) → 0 ≡ may_step w (meant o) t
-unfolding may_step
-others_free w (Forward n) t f b r e c = absurd (f n refl)
-others_free w (Back n) t f b r e c = absurd (b n refl)
-others_free w (Run n) t f b r e c = absurd (r n refl)
-others_free w (Rerun n) t f b r e c = absurd (e n refl)
-others_free w (Changer a) t f b r e c = absurd (c a refl)
-others_free w (StopAt s) t f b r e c = refl
-others_free w (Drop i) t f b r e c = refl
-others_free w Where t f b r e c = refl
-others_free w Registers t f b r e c = refl
-others_free w (Words a n) t f b r e c = refl
-others_free w (Outs a n) t f b r e c = refl

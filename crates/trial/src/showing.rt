@@ -59,6 +59,7 @@ impl Trial {
     }
 
     // So many words from there on, as far as there are.
+    #[tactic(auto, using(crate::proofs::Shows::shown_words, crate::proofs::Moves::words_here))]
     pub(crate) fn words_from(
         &self,
         heap: Global,

@@ -41,6 +41,7 @@ impl Turn {
 }
 
 // For a command that went from one time to another, or was refused.
+#[tactic(auto, using(crate::proofs::Turning::apart_is, crate::proofs::Turning::told_done), unfolding(command::specs::Plain::may_step))]
 fn grant(order: Order, from: usize, to: usize, answer: &Answer) -> u64
     requires from { from ≤ 1099511627776 }
     requires to { to ≤ 1099511627776 }
