@@ -4,8 +4,11 @@ use Rattle.std.proofs.lemmas.List.{length-take-le, take_at, drop_at, drop-drop, 
 use Rattle.command.specs.Machine.{eight, in_bytes, flat}
 use Rattle.target.specs.Run.{shows}
 use Rattle.machine.specs.Entry.{on_row, ActTold}
-use Rattle.machine.specs.Rows.{put_at}
 use Rattle.machine.specs.declared.acts.Told.TheVariants.{Shows}
+
+-- a row with numbers in place of as many from a place on
+abbrev put_at : List ℕ → ℕ → List ℕ → List ℕ
+put_at out at bs = take at out ++ on_row bs (drop at out)
 
 -- more numbers behind those that were written at the front
 pub row_behind : (out xs ys : List ℕ) (n : ℕ) → length xs ≡ n → put_at (on_row xs out) n ys ≡ on_row (xs ++ ys) out

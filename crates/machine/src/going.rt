@@ -14,6 +14,7 @@ use checkpoints::numbers::STRIDE;
 use checkpoints::{arrival, levels_reached};
 
 // How far it goes on at once: past no multiple of the stride.
+#[tactic(auto, unfolding(crate::specs::Engine::stride))]
 fn stride(here: u64, left: u64) -> u64
     ensures { result ≡ stride_of here left }
 {
@@ -47,6 +48,7 @@ fn left_after(left: u64, came: Came) -> u64
 
 impl Lent<'_> {
     // It is where it is to be: the time is shown.
+    #[tactic(auto, unfolding(crate::specs::Engine::arrived, crate::specs::Engine::written))]
     fn arrive(self, here: u64) -> Told
         ensures { Does (arrived [] here) self.entry result self.exit }
     {
