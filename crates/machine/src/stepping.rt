@@ -27,6 +27,7 @@ fn number_at(numbers: &[u64], place: usize) -> u64
 
 impl Lent<'_> {
     // The processor came so far.
+    #[tactic(auto, unfolding(crate::specs::Engine::on_came, crate::specs::Engine::written))]
     fn on_came(self, phase: Phase, came: Came) -> Told
         ensures { Does (on_came (phase_number phase) self.entry.memory.now came.by came.hit came.why) self.entry result self.exit }
     {
@@ -37,6 +38,7 @@ impl Lent<'_> {
     }
 
     // It was looked at: that is shown, if there is room for it.
+    #[tactic(auto, unfolding(crate::specs::Engine::on_saw, crate::specs::Engine::written, crate::specs::Engine::cell))]
     fn on_saw(self, phase: Phase, seen: &[u64]) -> Told
         ensures { Does (on_saw (phase_number phase) self.entry.memory.now seen.now) self.entry result self.exit }
     {
@@ -76,6 +78,7 @@ impl Lent<'_> {
     }
 
     // The last act is done: on with the plan.
+    #[tactic(auto, unfolding(crate::specs::Engine::on_next, crate::specs::Engine::written, crate::specs::Engine::cell, crate::specs::Engine::kept_or))]
     fn on_next(self, phase: Phase) -> Told
         ensures { Does (on_next (phase_number phase) self.entry.memory.now) self.entry result self.exit }
     {
@@ -98,6 +101,7 @@ impl Lent<'_> {
     }
 
     // What the debugger does next; whatever it is at, a command begins anew.
+    #[tactic(auto, unfolding(crate::specs::Engine::planned, crate::specs::Engine::cell))]
     fn react(self, event: Event) -> Told
         ensures { Does (planned self.entry.memory.now (event_meant event.entry)) self.entry result self.exit }
     {
