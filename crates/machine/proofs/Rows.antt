@@ -50,10 +50,3 @@ show_more out ns i h =
 pub shown : (out row ns : List ℕ) (i : ℕ) → length ns ≤ i → row ≡ on_row (flat eight (take i ns)) out → ActTold (shows (flat eight ns)) (Shows (8 * length ns)) out row
 shown out row ns i h e =
     (ap Shows (sym (length_eights ns)), e ∙ ap (λ xs. on_row (flat eight xs) out) (take_all i ns h))
-
--- one number, and three
-pub one_shown : (t : ℕ) → flat eight (t ∷ []) ≡ eight t
-one_shown t = append-nil (eight t)
-
-pub three_shown : (t a b : ℕ) → flat eight (t ∷ a ∷ b ∷ []) ≡ eight t ++ eight a ++ eight b
-three_shown t a b = ap (λ r. eight t ++ (eight a ++ r)) (append-nil (eight b)) ∙ sym (append_assoc (eight t) (eight a) (eight b))

@@ -61,7 +61,7 @@ impl Lent<'_> {
     }
 
     // Any other command.
-    #[tactic(auto, unfolding(crate::specs::Engine::begin_read, crate::specs::Engine::begin, crate::specs::Engine::written, crate::specs::Engine::cell, command::specs::Plain::core))]
+    #[tactic(auto, unfolding(crate::specs::Engine::begin_read, crate::specs::Engine::begin, crate::specs::Engine::written, crate::specs::Engine::cell, crate::specs::Engine::set_off, crate::specs::Engine::arrived, command::specs::Plain::core, command::specs::Plain::fits))]
     fn obey(self, order: Order) -> Told
         requires fits { fits (meant order) ≡ true }
         ensures { Does (begin_read self.entry.memory.now (some (meant order))) self.entry result self.exit }
