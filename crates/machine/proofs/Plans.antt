@@ -32,6 +32,7 @@ module _ (m out m₁ : List ℕ) (here left : ℕ) where
     where
       whole_too : set (set (set (set m 0 4) 4 1) 1 here) 3 left ≡ set (set (set (set m 0 4) 4 1) 1 (here % limit)) 3 (left % limit)
       whole_too = rw (whole here sh, whole left sl) refl
+
       swap_all : (m : List ℕ) (a b : ℕ) → set (set (set (set m 1 a) 3 b) 0 4) 4 1 ≡ set (set (set (set m 0 4) 4 1) 1 a) 3 b
       swap_all [] a b = refl
       swap_all (p ∷ []) a b = refl
