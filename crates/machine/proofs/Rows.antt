@@ -4,8 +4,11 @@ use Rattle.std.proofs.lemmas.List.{length-take-le, take_at, drop_at, drop-drop, 
 use Rattle.command.specs.Machine.{eight, in_bytes, flat}
 use Rattle.target.specs.Run.{shows}
 use Rattle.machine.specs.Entry.{on_row, ActTold}
-use Rattle.machine.specs.Rows.{put_at}
 use Rattle.machine.specs.declared.acts.Told.TheVariants.{Shows}
+
+-- a row with numbers in place of as many from a place on
+abbrev put_at : List ℕ → ℕ → List ℕ → List ℕ
+put_at out at bs = take at out ++ on_row bs (drop at out)
 
 -- more numbers behind those that were written at the front
 pub row_behind : (out xs ys : List ℕ) (n : ℕ) → length xs ≡ n → put_at (on_row xs out) n ys ≡ on_row (xs ++ ys) out
@@ -47,10 +50,3 @@ show_more out ns i h =
 pub shown : (out row ns : List ℕ) (i : ℕ) → length ns ≤ i → row ≡ on_row (flat eight (take i ns)) out → ActTold (shows (flat eight ns)) (Shows (8 * length ns)) out row
 shown out row ns i h e =
     (ap Shows (sym (length_eights ns)), e ∙ ap (λ xs. on_row (flat eight xs) out) (take_all i ns h))
-
--- one number, and three
-pub one_shown : (t : ℕ) → flat eight (t ∷ []) ≡ eight t
-one_shown t = append-nil (eight t)
-
-pub three_shown : (t a b : ℕ) → flat eight (t ∷ a ∷ b ∷ []) ≡ eight t ++ eight a ++ eight b
-three_shown t a b = ap (λ r. eight t ++ (eight a ++ r)) (append-nil (eight b)) ∙ sym (append_assoc (eight t) (eight a) (eight b))

@@ -4,5 +4,4 @@ pub mod Plans
 pub mod Entry
 pub mod Lent
 pub mod Phases
-pub mod Rows
 pub mod Fair

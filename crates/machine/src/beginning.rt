@@ -29,6 +29,7 @@ fn words_there(from: u64, count: u64) -> u64
 
 impl Lent<'_> {
     // A program: its instructions are as they stand in the text, behind the first byte and their count.
+    #[tactic(auto, unfolding(crate::specs::Engine::begin, crate::specs::Engine::written))]
     fn load(self, count: u64, text: &[u64]) -> Told
         requires says { SaysSo text.now (loading (program_in (drop 1 text.now))) }
         requires counts { count ≡ length (program_in (drop 1 text.now)) }
@@ -43,6 +44,7 @@ impl Lent<'_> {
     }
 
     // Numbers that are to come in, if not too many would have.
+    #[tactic(auto, unfolding(crate::specs::Engine::begin, crate::specs::Engine::written, crate::specs::Engine::cell))]
     fn give(self, count: u64, text: &[u64]) -> Told
         requires says { SaysSo text.now (giving (numbers_in (drop 1 text.now))) }
         requires counts { count ≡ length (numbers_in (drop 1 text.now)) }
@@ -59,6 +61,7 @@ impl Lent<'_> {
     }
 
     // Any other command.
+    #[tactic(auto, unfolding(crate::specs::Engine::begin_read, crate::specs::Engine::begin, crate::specs::Engine::written, crate::specs::Engine::cell, crate::specs::Engine::set_off, crate::specs::Engine::arrived, command::specs::Plain::core, command::specs::Plain::fits))]
     fn obey(self, order: Order) -> Told
         requires fits { fits (meant order) ≡ true }
         ensures { Does (begin_read self.entry.memory.now (some (meant order))) self.entry result self.exit }
@@ -92,6 +95,7 @@ impl Lent<'_> {
     }
 
     // A command that was read from the text.
+    #[tactic(auto, unfolding(crate::specs::Engine::begin_read, command::specs::Plain::core))]
     fn begin(self, command: Command, text: &[u64]) -> Told
         requires says { SaysSo text.now (told_by (drop 1 text.now) command) }
         requires counts { Counts (drop 1 text.now) command }
@@ -105,6 +109,7 @@ impl Lent<'_> {
     }
 
     // Something was said.
+    #[tactic(auto, unfolding(crate::specs::Engine::begin_read, crate::specs::Engine::written))]
     pub fn hear(self, text: &[u64]) -> Told
         ensures { Does (begin_read self.entry.memory.now (read_command text.now)) self.entry result self.exit }
     {

@@ -3,7 +3,7 @@ ghost use Rattle.std.specs.Prelude.{◌≡◌, ◌<◌, ◌≤◌, MatchOption};
 ghost use Rattle.machine.specs.Entry.{event_of};
 ghost use Rattle.machine.specs.Phases.{event_meant};
 
-#[derive(Clone, Copy)]
+#[derive(Clone, Copy, Debug, PartialEq, Eq)]
 pub enum Event<'a> {
     // A command's bytes.
     Said(&'a [u64]),
@@ -19,11 +19,11 @@ pub enum Event<'a> {
 pub struct Came {
     pub by: u64,
     pub hit: bool,
-    // Whatever number was told: any but 0 is a reason.
+    // A number, since any may be told: 0 is no reason, each other one is.
     pub why: u64,
 }
 
-// The event of a kind, or none if there is no such kind.
+// The event of a kind, or none if there is no such kind. The kind is a number, as the interface of a step gives it.
 pub fn event_from(kind: u64, a: u64, b: u64, c: u64, told: &[u64]) -> Option<Event<'_>>
     ensures { MatchOption result (3 < kind) (λ e. (kind ≤ 3) × (event_meant e ≡ event_of kind a b c told.now)) }
 {

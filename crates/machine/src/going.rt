@@ -40,6 +40,7 @@ fn left_after(left: u64, came: Came) -> u64
 
 impl Lent<'_> {
     // It is where it is to be: the time is shown.
+    #[tactic(auto, unfolding(crate::specs::Engine::arrived, crate::specs::Engine::written))]
     fn arrive(self, here: u64) -> Told
         ensures { Does (arrived [] here) self.entry result self.exit }
     {
@@ -48,6 +49,7 @@ impl Lent<'_> {
     }
 
     // From a time on by what is left, if anything is.
+    #[tactic(auto, unfolding(crate::specs::Engine::set_off, crate::specs::Engine::written))]
     pub fn set_off(self, here: u64, left: u64) -> Told
         ensures { Does (set_off [] here left) self.entry result self.exit }
     {
@@ -61,6 +63,7 @@ impl Lent<'_> {
     }
 
     // It came to a time, and so many steps are left: a multiple of the stride that it has reached is kept first.
+    #[tactic(auto, unfolding(crate::specs::Engine::come_to, crate::specs::Engine::written, crate::specs::Engine::kept_or, crate::specs::Engine::set_off, crate::specs::Engine::arrived))]
     fn come_to(self, reached: bool, here: u64, left: u64) -> Told
         ensures { Does (come_to reached here left) self.entry result self.exit }
     {
@@ -79,6 +82,7 @@ impl Lent<'_> {
     }
 
     // The processor came so far.
+    #[tactic(auto, unfolding(crate::specs::Engine::went, crate::specs::Engine::cell))]
     pub fn come(self, came: Came) -> Told
         ensures { Does (went self.entry.memory.now came.by came.hit came.why) self.entry result self.exit }
     {

@@ -17,6 +17,7 @@ pub fn show(row: &mut [u64; ROW], numbers: &[u64]) -> Told
     requires few { length numbers.now ≤ 4096 }
     ensures { ActTold (shows (flat eight numbers.now)) result row.old row.new }
 {
+    // Each place is taken by its index: what `chunks_exact_mut` lends ends as anything, as far as a proof can tell.
     for (i, number) in numbers.iter().enumerate() {
         row[8 * i..8 * i + 8].copy_from_slice(&eight_bytes(*number));
     }

@@ -1,9 +1,9 @@
 // One step of the debugger: what it is told, by its phase.
-ghost use Rattle.std.specs.Prelude.{◌≡◌, ◌+◌, ◌%◌, length, slice_index, slice_set};
-ghost use Rattle.machine.specs.Engine.{limit, planned, on_came, on_saw, on_next};
+ghost use Rattle.std.specs.Prelude.{◌≡◌, suc, [], ◌∷◌, length, slice_index};
+ghost use Rattle.target.specs.Run.{keeps, done};
+ghost use Rattle.machine.specs.Engine.{puts, plan, cell, phase, idle, cursor, planned, on_came, on_saw, on_next};
 ghost use Rattle.machine.specs.Entry.{Carries, StepSays, step_fits};
 ghost use Rattle.machine.specs.Lent.{Does};
-ghost use Rattle.machine.specs.declared.acts.Told.TheVariants.{Done, Keeps};
 ghost use Rattle.machine.specs.Phases.{phase_number, event_meant};
 
 use crate::acts::{Refusal, Told};
@@ -25,24 +25,9 @@ fn number_at(numbers: &[u64], place: usize) -> u64
     numbers.get(place).copied().unwrap_or(0)
 }
 
-// The command is done.
-fn finish(memory: &mut [u64; CELLS]) -> Told
-    ensures { (memory.new ≡ slice_set memory.old 0 0) × (result ≡ Done) }
-{
-    memory[PHASE] = Phase::Idle.into();
-    Told::Done
-}
-
-// The state is kept, and one more act of the plan is done.
-fn keep(memory: &mut [u64; CELLS], slot: u64) -> Told
-    ensures { (memory.new ≡ slice_set memory.old 4 ((slice_index memory.old 4 + 1) % limit)) × (result ≡ Keeps slot) }
-{
-    memory[CURSOR] = memory[CURSOR].wrapping_add(1);
-    Told::Keeps(slot)
-}
-
 impl Lent<'_> {
     // The processor came so far.
+    #[tactic(auto, unfolding(crate::specs::Engine::on_came, crate::specs::Engine::written))]
     fn on_came(self, phase: Phase, came: Came) -> Told
         ensures { Does (on_came (phase_number phase) self.entry.memory.now came.by came.hit came.why) self.entry result self.exit }
     {
@@ -53,6 +38,7 @@ impl Lent<'_> {
     }
 
     // It was looked at: that is shown, if there is room for it.
+    #[tactic(auto, unfolding(crate::specs::Engine::on_saw, crate::specs::Engine::written, crate::specs::Engine::cell))]
     fn on_saw(self, phase: Phase, seen: &[u64]) -> Told
         ensures { Does (on_saw (phase_number phase) self.entry.memory.now seen.now) self.entry result self.exit }
     {
@@ -73,21 +59,40 @@ impl Lent<'_> {
         }
     }
 
+    // The command is done.
+    #[tactic(auto, unfolding(crate::specs::Engine::written))]
+    fn finish(self) -> Told
+        ensures { Does (plan (puts phase idle ∷ []) done) self.entry result self.exit }
+    {
+        self.memory[PHASE] = Phase::Idle.into();
+        Told::Done
+    }
+
+    // The state is kept, and one more act of the plan is done.
+    #[tactic(auto, unfolding(crate::specs::Engine::written, crate::specs::Engine::cell))]
+    fn keep(self, slot: u64) -> Told
+        ensures { Does (plan (puts cursor (suc (cell self.entry.memory.now cursor)) ∷ []) (keeps slot)) self.entry result self.exit }
+    {
+        self.memory[CURSOR] = self.memory[CURSOR].wrapping_add(1);
+        Told::Keeps(slot)
+    }
+
     // The last act is done: on with the plan.
+    #[tactic(auto, unfolding(crate::specs::Engine::on_next, crate::specs::Engine::written, crate::specs::Engine::cell, crate::specs::Engine::kept_or))]
     fn on_next(self, phase: Phase) -> Told
         ensures { Does (on_next (phase_number phase) self.entry.memory.now) self.entry result self.exit }
     {
         match phase {
-            Phase::Ending => finish(self.memory),
+            Phase::Ending => self.finish(),
             Phase::Beginning => match beginning(self.memory[CURSOR]) {
-                Some(slot) => keep(self.memory, slot),
-                None => finish(self.memory),
+                Some(slot) => self.keep(slot),
+                None => self.finish(),
             },
             Phase::Keeping => {
                 let here = self.memory[TIME];
                 let left = self.memory[STEPS_LEFT];
                 match arrival(here / STRIDE, self.memory[CURSOR]) {
-                    Some(slot) => keep(self.memory, slot),
+                    Some(slot) => self.keep(slot),
                     None => self.set_off(here, left),
                 }
             }
@@ -96,6 +101,7 @@ impl Lent<'_> {
     }
 
     // What the debugger does next; whatever it is at, a command begins anew.
+    #[tactic(auto, unfolding(crate::specs::Engine::planned, crate::specs::Engine::cell))]
     fn react(self, event: Event) -> Told
         ensures { Does (planned self.entry.memory.now (event_meant event.entry)) self.entry result self.exit }
     {

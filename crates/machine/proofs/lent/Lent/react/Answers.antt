@@ -5,12 +5,6 @@ use Rattle.machine.proofs.Plans.{carries_at}
 use Rattle.machine.proofs.ByPhase.{came_same, saw_same, next_same}
 use Rattle.machine.proofs.lent.Lent.react.Goals as goal
 
-pub returns-in-Said : goal.returns-in-Said
-unfolding planned
-returns-in-Said c =
-    let m = c.args.self.memory.now in
-    carries_at m _ c.args.self.row.now _ _ (ap (λ e. planned m (event_meant e)) c.in-Said.is) c.hear.ensures
-
 pub returns-in-Came : goal.returns-in-Came
 unfolding planned cell
 returns-in-Came c =
