@@ -1,27 +1,20 @@
-use Rattle.std.proofs.Common.{arith}
 use Rattle.command.specs.Machine.{does, write}
 use Rattle.processor.specs.Like.{After}
 use Rattle.processor.proofs.Faults.{refused}
 use Rattle.processor.proofs.Instructions.{no_write, writes_on}
 use Rattle.processor.proofs.state.State.writes.Goals as goal
 
-pub returns-in_err-place : goal.returns-in_err-place
-returns-in_err-place c =
+pub returns-in_err-place-clause-after : goal.returns-in_err-place-clause-after
+returns-in_err-place-clause-after c =
     let h = c.in_err-place.ensures in
     let m = c.args.self.now in
-    record {
-      after = λ b s ins r.
-          refused c.from_residual.result _ _ (λ w. After b m w s (does s ins (write c.args.k.number c.args.to.number c.args.n))) h.0 c.from_residual.ensures.1
-          (no_write b m s r.like ins c.args.k.number c.args.to.number c.args.n h.1);
-      room = record { cap = omega arith; put = omega arith };
-    }
+    λ b s ins r.
+    refused c.from_residual.result _ _ (λ w. After b m w s (does s ins (write c.args.k.number c.args.to.number c.args.n))) h.0 c.from_residual.ensures.1
+    (no_write b m s r.like ins c.args.k.number c.args.to.number c.args.n h.1)
 
-pub returns : goal.returns
-returns c =
+pub returns-clause-after : goal.returns-clause-after
+returns-clause-after c =
     let h = c.in_ok-place.ensures in
-    record {
-      after = λ b s ins r.
-          writes_on b c.args.self.now c.args.next s r c.put-word.new.self ins c.args.k.number c.args.to.number c.args.n c.in_ok-place.place _ h.1 h.0 c.put-word.ensures.word
-          c.put-word.ensures.items c.put-word.ensures.pages;
-      room = record { cap = omega arith; put = omega arith };
-    }
+    λ b s ins r.
+    writes_on b c.args.self.now c.args.next s r c.put-word.new.self ins c.args.k.number c.args.to.number c.args.n c.in_ok-place.place _ h.1 h.0 c.put-word.ensures.word
+    c.put-word.ensures.items c.put-word.ensures.pages
