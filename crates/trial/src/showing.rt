@@ -21,7 +21,7 @@ impl Moment {
     fn registers(&self, heap: Global) -> Result<Vec<u64>, AllocError>
         ensures { IfOk result (λ v. v.items ≡ self.now.regs) }
     {
-        self.regs.iter().map(|v| u64::from(*v)).collect(heap)
+        self.regs.iter().copied().map(u64::from).collect(heap)
     }
 }
 
