@@ -13,6 +13,7 @@ pub(crate) struct Numbered {
     pub(crate) stop: Break,
 }
 
+// That it holds a plain debugger is a premise of its methods and no invariant: once memory has run out in the midst of a command, it may hold none.
 #[derive(Drop)]
 pub struct Trial {
     pub(crate) program: Vec<Instr>,

@@ -36,7 +36,7 @@ impl Memory {
         ensures { IfOk result (λ v. v.items ≡ take count (drop from self.now.words.items)) }
     {
         let words = self.words.iter().skip(from).take(count);
-        words.map(|v| u64::from(*v)).collect(heap)
+        words.copied().map(u64::from).collect(heap)
     }
 
     pub(crate) fn put(&mut self, place: u16, value: u32)

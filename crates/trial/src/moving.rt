@@ -10,7 +10,7 @@ use crate::debugger::Trial;
 use crate::moments::{Moment, Why};
 use std::alloc::AllocError;
 
-// More moments than any memory holds. So what a command may step, which is told in 64 bits, is far below what they hold.
+// More moments than any memory holds. Nothing else bounds them, and what a command may step is to fit 64 bits.
 const MOST: usize = 1_099_511_627_776;
 
 impl Trial {
@@ -36,6 +36,7 @@ impl Trial {
         if self.now + 1 < self.past.len() {
             return Ok(true);
         }
+        // That there is no step is an answer here, and no error.
         let Ok(moment) = self.step() else {
             return Ok(false);
         };

@@ -14,14 +14,14 @@ fn outs(past: &[Moment], heap: Global, from: usize, count: usize) -> Result<Vec<
     ensures { IfOk result (λ v. v.items ≡ take count (drop from (filter_map (λ m. m.out) past.now))) }
 {
     let outs = past.iter().filter_map(|m| m.out).skip(from).take(count);
-    outs.map(|v| u64::from(v)).collect(heap)
+    outs.map(u64::from).collect(heap)
 }
 
 impl Moment {
     fn registers(&self, heap: Global) -> Result<Vec<u64>, AllocError>
         ensures { IfOk result (λ v. v.items ≡ self.now.regs) }
     {
-        self.regs.iter().map(|v| u64::from(*v)).collect(heap)
+        self.regs.iter().copied().map(u64::from).collect(heap)
     }
 }
 
