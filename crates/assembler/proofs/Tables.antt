@@ -1,10 +1,10 @@
 -- Things that are found by their names. Assumes nothing.
-use Rattle.std.proofs.Common.{◌≡◌, ℕ, Bool, true, false, List, [], ◌∷◌, Some, None, Option, refl, ap, ⊎_elim}
+use Rattle.std.proofs.Common.{◌≡◌, ℕ, true, false, List, [], ◌∷◌, Some, None, Option, refl, ⊎_elim}
 use Rattle.std.specs.List.{find}
 use Rattle.std.specs.Option.{option_map}
 use Rattle.std.specs.Str.{bytes_eq}
 use Rattle.std.proofs.lemmas.Bool.{cases_Bool}
-use Rattle.command.specs.Machine.{pick, each}
+use Rattle.command.specs.Machine.{each}
 use Rattle.command.specs.declared.code.Op.{Op}
 use Rattle.command.specs.declared.code.Op.TheVariants.{Sum, Difference, Product, Quotient, Remainder, And, Or, Either, Left, Right}
 use Rattle.command.specs.declared.code.Comparison.{Comparison}

@@ -1,10 +1,10 @@
 -- The number that a word writes: below a limit, it is up to the number before the limit. Assumes nothing.
-use Rattle.std.proofs.Common.{◌≡◌, ℕ, suc, ◌+◌, ◌-◌, ◌*◌, ◌<◌, ◌≤◌, Bool, true, false, cond, eqb, leb, ltb, List, [], ◌∷◌, length, Some, None, Option, sym, refl, ap, ◌∙◌, arith, ⊎_elim, eqb-true}
+use Rattle.std.proofs.Common.{◌≡◌, ℕ, suc, ◌+◌, ◌-◌, ◌*◌, ◌<◌, ◌≤◌, true, false, eqb, leb, ltb, List, [], ◌∷◌, length, Some, None, Option, sym, refl, ap, ◌∙◌, arith, ⊎_elim, eqb-true}
 use Rattle.std.proofs.lemmas.Bool.{cases_Bool}
 use Rattle.std.proofs.lemmas.Bool.Decides.{nat_tests}
-use Rattle.scan.specs.Numbers.{onward, digit as digit_in, put_behind, longer, digits, is_hexadecimal, number}
+use Rattle.scan.specs.Numbers.{onward, digit as digit_in, put_behind, longer, digits, number}
 use Rattle.command.specs.Machine.{pick}
-use Rattle.assembler.specs.Words.{value_on, value_below, digit_of, hex_digits, number_below}
+use Rattle.assembler.specs.Words.{value_on, digit_of, number_below}
 
 digit_same : (base b : ℕ) → base ≤ 16 → digit_in base b ≡ pick (ltb (digit_of b) base) (Some (digit_of b)) None
 digit_same base b h = grind (arith, nat_tests)

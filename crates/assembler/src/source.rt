@@ -85,8 +85,11 @@ fn line_label<'t>(
     ensures named { Named result }
 {
     let mut cursor = Cursor { rest: line.text };
-    let label = read_label(&mut cursor, labels, place);
-    label.map_err(|expected| AssembleError::on(heap, line, cursor.rest, expected))
+    // A match, as in `line_instr`: the contract of a closure for `map_err` would not say which mistake it tells.
+    match read_label(&mut cursor, labels, place) {
+        Ok(label) => Ok(label),
+        Err(expected) => Err(AssembleError::on(heap, line, cursor.rest, expected)),
+    }
 }
 
 // One more label, if there is one.
@@ -146,8 +149,10 @@ fn line_instr(
     ensures { Answers instr_of (line_instr line.entry.number (labels_of labels.now) line.entry.text.now) result }
 {
     let mut cursor = Cursor { rest: line.text };
-    let instr = read_line(&mut cursor, labels);
-    instr.map_err(|expected| AssembleError::on(heap, line, cursor.rest, expected))
+    match read_line(&mut cursor, labels) {
+        Ok(instr) => Ok(instr),
+        Err(expected) => Err(AssembleError::on(heap, line, cursor.rest, expected)),
+    }
 }
 
 // One more instruction, if there is one.

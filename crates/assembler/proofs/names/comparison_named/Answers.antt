@@ -1,13 +1,12 @@
-use Rattle.std.proofs.Common.{◌≡◌, rules, tests, sym, ap, ◌∙◌}
+use Rattle.std.proofs.Common.{rules, tests, ap, ◌∙◌}
 use Rattle.std.specs.Option.{option_map}
-use Rattle.std.specs.List.{find}
 use Rattle.std.specs.Str.{bytes_eq}
 use Rattle.std.proofs.lemmas.Iterator.{YieldsList-from_slice}
 use Rattle.std.proofs.lemmas.Iterator.Search.{find_from_yields_List}
 use Rattle.command.specs.Codes.{comparison_number}
 use Rattle.command.specs.declared.code.Comparison.{Comparison}
 use Rattle.assembler.specs.Names.{comparison_name}
-use Rattle.assembler.proofs.Tables.{found_among, mapped_itself, all_comparisons}
+use Rattle.assembler.proofs.Tables.{found_among, all_comparisons}
 use Rattle.assembler.proofs.names.comparison_named.Goals as goal
 
 pub returns : goal.returns

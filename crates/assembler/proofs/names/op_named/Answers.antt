@@ -1,13 +1,12 @@
-use Rattle.std.proofs.Common.{◌≡◌, rules, tests, sym, ap, ◌∙◌}
+use Rattle.std.proofs.Common.{rules, tests, ap, ◌∙◌}
 use Rattle.std.specs.Option.{option_map}
-use Rattle.std.specs.List.{find}
 use Rattle.std.specs.Str.{bytes_eq}
 use Rattle.std.proofs.lemmas.Iterator.{YieldsList-from_slice}
 use Rattle.std.proofs.lemmas.Iterator.Search.{find_from_yields_List}
 use Rattle.command.specs.Codes.{op_number}
 use Rattle.command.specs.declared.code.Op.{Op}
 use Rattle.assembler.specs.Names.{op_name}
-use Rattle.assembler.proofs.Tables.{found_among, mapped_itself, all_ops}
+use Rattle.assembler.proofs.Tables.{found_among, all_ops}
 use Rattle.assembler.proofs.names.op_named.Goals as goal
 
 pub returns : goal.returns

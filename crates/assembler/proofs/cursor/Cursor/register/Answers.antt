@@ -1,4 +1,4 @@
-use Rattle.std.proofs.Common.{◌≡◌, rules}
+use Rattle.std.proofs.Common.{rules}
 use Rattle.std.specs.Option.{ok_or}
 use Rattle.assembler.specs.declared.mistakes.Expected.TheVariants as expected
 use Rattle.assembler.specs.Words.{word, past_word}
