@@ -3,8 +3,7 @@ use Rattle.std.proofs.Common.{◌≡◌, ℕ, zero, suc, ◌<◌, true, false, L
 use Rattle.std.proofs.lemmas.Bool.Decides.{nat_tests}
 use Rattle.command.specs.Machine.{every, Instr, load_number, copy, reckon, read, write, jump, jump_if, call, return, take_in, put_out, halt}
 use Rattle.command.specs.Plain.{an_instr}
-use Rattle.assembler.specs.declared.words.Class.TheVariants.{Line}
-use Rattle.assembler.specs.Words.{digit, in_class, front, past, spaced, separated, over}
+use Rattle.assembler.specs.Words.{digit, in_line, front, past, spaced, separated, over}
 use Rattle.assembler.specs.Names.{op_name, comparison_name}
 use Rattle.assembler.specs.Reading.{Got, got, bind, label, ended}
 use Rattle.assembler.specs.Instructions.{register, next_register, next_number, next_offset, operation, comparison, place, load_operands, copy_operands, reckon_operands, word_operands, jump_operands, to_place, one_register, jump_by, instruction}
@@ -18,16 +17,16 @@ bind_at f e = ap (λ g. bind g f) e
 num : (n : ℕ) → n < 4294967296 → Numeral (decimal n) n
 num n h = numeral n (omega arith)
 
-line_number : (n : ℕ) (u : List ℕ) → n < 4294967296 → every (in_class Line) (decimal n ++ u) ≡ every (in_class Line) u
-line_number n u h = every_append (in_class Line) (decimal n) u (every_from digit (in_class Line) digit_line (decimal n) (num n h).all)
+line_number : (n : ℕ) (u : List ℕ) → n < 4294967296 → every in_line (decimal n ++ u) ≡ every in_line u
+line_number n u h = every_append in_line (decimal n) u (every_from digit in_line digit_line (decimal n) (num n h).all)
 
-line_last : (n : ℕ) → n < 4294967296 → every (in_class Line) (decimal n) ≡ true
-line_last n h = every_from digit (in_class Line) digit_line (decimal n) (num n h).all
+line_last : (n : ℕ) → n < 4294967296 → every in_line (decimal n) ≡ true
+line_last n h = every_from digit in_line digit_line (decimal n) (num n h).all
 
-two_line : (a b : ℕ) → a < 4294967296 → b < 4294967296 → every (in_class Line) (two a b) ≡ true
+two_line : (a b : ℕ) → a < 4294967296 → b < 4294967296 → every in_line (two a b) ≡ true
 two_line a b h k = line_number a (chars ", " ++ decimal b) h ∙ line_last b k
 
-three_line : (a b c : ℕ) → a < 4294967296 → b < 4294967296 → c < 4294967296 → every (in_class Line) (three a b c) ≡ true
+three_line : (a b c : ℕ) → a < 4294967296 → b < 4294967296 → c < 4294967296 → every in_line (three a b c) ≡ true
 three_line a b c h k l = line_number a (chars ", " ++ two b c) h ∙ two_line b c k l
 
 -- two registers, and what is behind them
@@ -74,7 +73,7 @@ op_at (suc (suc (suc (suc (suc (suc (suc (suc (suc zero))))))))) t h = refl
 op_at (suc (suc (suc (suc (suc (suc (suc (suc (suc (suc n)))))))))) t h = absurd (omega arith)
 
 -- what stands before a space and what follows
-op_line : (o : ℕ) (t : List ℕ) → o < 10 → every (in_class Line) (op_name o ++ t) ≡ every (in_class Line) t
+op_line : (o : ℕ) (t : List ℕ) → o < 10 → every in_line (op_name o ++ t) ≡ every in_line t
 op_line zero t h = refl
 op_line (suc zero) t h = refl
 op_line (suc (suc zero)) t h = refl
@@ -109,7 +108,7 @@ comparison_at (suc (suc zero)) t h = refl
 comparison_at (suc (suc (suc zero))) t h = refl
 comparison_at (suc (suc (suc (suc n)))) t h = absurd (omega arith)
 
-comparison_line : (c : ℕ) (t : List ℕ) → c < 4 → every (in_class Line) (comparison_name c ++ t) ≡ every (in_class Line) t
+comparison_line : (c : ℕ) (t : List ℕ) → c < 4 → every in_line (comparison_name c ++ t) ≡ every in_line t
 comparison_line zero t h = refl
 comparison_line (suc zero) t h = refl
 comparison_line (suc (suc zero)) t h = refl
@@ -158,7 +157,7 @@ pub record ReadsBack (i : Instr) : Type 0 where
   pub bare : label (instr_text i) ≡ got None (instr_text i)
   pub full : over (instr_text i) ≡ false
   pub reads : instruction [] (instr_text i) ≡ got i []
-  pub line : every (in_class Line) (instr_text i) ≡ true
+  pub line : every in_line (instr_text i) ≡ true
 
 pub reads_back : (i : Instr) → an_instr i ≡ true → ReadsBack i
 unfolding an_instr instruction front past

@@ -1,6 +1,8 @@
 pub mod Runs
+pub mod Cuts
+pub mod Tables
+pub mod Taken
 pub mod Values
-pub mod Places
 pub mod Lines
 pub mod Listings
 pub mod Numerals

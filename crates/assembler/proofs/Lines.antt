@@ -5,8 +5,7 @@ use Rattle.std.proofs.lemmas.Bool.{cases_Bool}
 use Rattle.command.specs.Machine.{Instr}
 use Rattle.assembler.specs.declared.mistakes.AssembleError.{AssembleError}
 use Rattle.assembler.specs.declared.mistakes.AssembleError.TheVariants.{Wrong, NoMemory}
-use Rattle.assembler.specs.declared.words.Class.TheVariants.{Line}
-use Rattle.assembler.specs.Words.{front, past, in_class, line_of, after_line}
+use Rattle.assembler.specs.Words.{front, past, in_line, line_of, after_line}
 use Rattle.assembler.specs.Instructions.{Label}
 use Rattle.assembler.specs.Source.{lines, onto, Mistake, mistake_of, line_label, with_label, find_labels, Answers, line_instr, with_instr, read_lines}
 use Rattle.assembler.proofs.Runs.{front_on, front_off, past_on, past_off}
@@ -22,12 +21,12 @@ lines_cut [] h = absurd (omega arith)
 lines_cut (b ∷ bs) h =
     ⊎_elim
     (λ (e : eqb b 10 ≡ true).
-    let f = front_off (in_class Line) b bs (rw e) in
-    let p = past_off (in_class Line) b bs (rw e) in
+    let f = front_off in_line b bs (rw e) in
+    let p = past_off in_line b bs (rw e) in
     simp (f, p, e))
     (λ (e : eqb b 10 ≡ false).
-    let f = front_on (in_class Line) b bs (rw e) in
-    let p = past_on (in_class Line) b bs (rw e) in
+    let f = front_on in_line b bs (rw e) in
+    let p = past_on in_line b bs (rw e) in
     simp (f, p, e) (more b bs (lines_cut bs)))
     (cases_Bool (eqb b 10))
 

@@ -6,9 +6,8 @@ use Rattle.std.proofs.lemmas.Bool.Decides.{nat_tests}
 use Rattle.std.specs.Option.{ok_or}
 use Rattle.std.specs.Str.{bytes_eq}
 use Rattle.command.specs.Machine.{pick, every}
-use Rattle.assembler.specs.declared.words.Class.TheVariants.{Blank, Word, Line}
 use Rattle.assembler.specs.declared.mistakes.Expected.TheVariants as expected
-use Rattle.assembler.specs.Words.{digit, letter, in_class, front, past, word, past_word, spaced, separated, digit_of, value_on, hex_digits, number_below}
+use Rattle.assembler.specs.Words.{digit, letter, blank, in_word, in_line, front, past, word, past_word, spaced, separated, digit_of, value_on, hex_digits, number_below}
 use Rattle.assembler.specs.Names.{comparison_named}
 use Rattle.assembler.specs.Reading.{Got, got, meant, a_word}
 use Rattle.assembler.specs.Instructions.{register_named, place_named, register, next_register, next_number, next_offset, place, comparison, below, if_named}
@@ -61,15 +60,15 @@ numeral n h = decimal_by_steps (λ n ds. Numeral ds n) one_digit more_digits n h
 -- what follows a word
 abbrev pub Stops : List ℕ → Type 0
 Stops [] = Unit {0}
-Stops (b ∷ bs) = in_class Word b ≡ false
+Stops (b ∷ bs) = in_word b ≡ false
 
-digit_word : (b : ℕ) → digit b ≡ true → in_class Word b ≡ true
+digit_word : (b : ℕ) → digit b ≡ true → in_word b ≡ true
 digit_word b e = grind (arith, nat_tests)
 
-pub digit_line : (b : ℕ) → digit b ≡ true → in_class Line b ≡ true
+pub digit_line : (b : ℕ) → digit b ≡ true → in_line b ≡ true
 digit_line b e = grind (arith, nat_tests)
 
-digit_blank : (b : ℕ) → digit b ≡ true → in_class Blank b ≡ false
+digit_blank : (b : ℕ) → digit b ≡ true → blank b ≡ false
 digit_blank b e = grind (arith, nat_tests)
 
 digit_letter : (b : ℕ) → digit b ≡ true → letter b ≡ false
@@ -78,15 +77,15 @@ digit_letter b e = grind (arith, nat_tests)
 digit_not : (b c : ℕ) → digit b ≡ true → 57 < c → eqb b c ≡ false
 digit_not b c e h = grind (arith, nat_tests)
 
-front_stops : (u : List ℕ) → Stops u → front (in_class Word) u ≡ []
+front_stops : (u : List ℕ) → Stops u → front in_word u ≡ []
 unfolding front
 front_stops [] s = refl
-front_stops (b ∷ bs) s = front_off (in_class Word) b bs s
+front_stops (b ∷ bs) s = front_off in_word b bs s
 
-past_stops : (u : List ℕ) → Stops u → past (in_class Word) u ≡ u
+past_stops : (u : List ℕ) → Stops u → past in_word u ≡ u
 unfolding past
 past_stops [] s = refl
-past_stops (b ∷ bs) s = past_off (in_class Word) b bs s
+past_stops (b ∷ bs) s = past_off in_word b bs s
 
 module _ (w u : List ℕ) (s : Stops u) where
   pub word_digits : every digit w ≡ true → word (w ++ u) ≡ w
@@ -94,18 +93,18 @@ module _ (w u : List ℕ) (s : Stops u) where
     where
       go : (w : List ℕ) → every digit w ≡ true → word (w ++ u) ≡ w
       go [] h = front_stops u s
-      go (b ∷ bs) h = let a = and_parts (digit b) (every digit bs) h in front_on (in_class Word) b (bs ++ u) (digit_word b a.0) ∙ ap (λ v. b ∷ v) (go bs a.1)
+      go (b ∷ bs) h = let a = and_parts (digit b) (every digit bs) h in front_on in_word b (bs ++ u) (digit_word b a.0) ∙ ap (λ v. b ∷ v) (go bs a.1)
 
   pub past_digits : every digit w ≡ true → past_word (w ++ u) ≡ u
   past_digits h = go w h
     where
       go : (w : List ℕ) → every digit w ≡ true → past_word (w ++ u) ≡ u
       go [] h = past_stops u s
-      go (b ∷ bs) h = let a = and_parts (digit b) (every digit bs) h in past_on (in_class Word) b (bs ++ u) (digit_word b a.0) ∙ go bs a.1
+      go (b ∷ bs) h = let a = and_parts (digit b) (every digit bs) h in past_on in_word b (bs ++ u) (digit_word b a.0) ∙ go bs a.1
 
 pub spaced_digits : (w u : List ℕ) → every digit w ≡ true → 0 < length w → spaced (w ++ u) ≡ w ++ u
 spaced_digits [] u h k = absurd (omega arith)
-spaced_digits (b ∷ bs) u h k = let a = and_parts (digit b) (every digit bs) h in past_off (in_class Blank) b (bs ++ u) (digit_blank b a.0)
+spaced_digits (b ∷ bs) u h k = let a = and_parts (digit b) (every digit bs) h in past_off blank b (bs ++ u) (digit_blank b a.0)
 
 not_hex : (w : List ℕ) → every digit w ≡ true → hex_digits w ≡ None
 not_hex [] h = refl

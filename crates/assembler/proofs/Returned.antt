@@ -3,9 +3,8 @@ use Rattle.std.proofs.Common.{◌≡◌, ℕ, ◌+◌, ◌<◌, ◌≤◌, true,
 use Rattle.std.proofs.lemmas.Bool.{lt-ltb, and_parts, not-true}
 use Rattle.command.specs.Machine.{pick, every, each, Instr}
 use Rattle.command.specs.Plain.{an_instr}
-use Rattle.assembler.specs.declared.words.Class.TheVariants.{Line}
 use Rattle.assembler.specs.declared.mistakes.Expected.TheVariants as expected
-use Rattle.assembler.specs.Words.{in_class}
+use Rattle.assembler.specs.Words.{in_line}
 use Rattle.assembler.specs.Reading.{got, bind}
 use Rattle.assembler.specs.Instructions.{Label, instruction}
 use Rattle.assembler.specs.Source.{Mistake, Assembly, lines, onto, on_line, unless_known, then_placed, next_place, line_label, with_label, find_labels, unless_over, line_instr, with_instr, read_lines, by_labels, assembled}
@@ -13,11 +12,11 @@ use Rattle.assembler.specs.Listing.{instr_text, listing}
 use Rattle.assembler.specs.Again.{ListedBack, ListedOnce}
 use Rattle.assembler.proofs.Back.{ReadsBack, reads_back}
 
-lines_line : (l t : List ℕ) → every (in_class Line) l ≡ true → lines (l ++ 10 ∷ t) ≡ l ∷ lines t
+lines_line : (l t : List ℕ) → every in_line l ≡ true → lines (l ++ 10 ∷ t) ≡ l ∷ lines t
 unfolding lines
 lines_line [] t h = refl
 lines_line (b ∷ bs) t h =
-    let a = and_parts (in_class Line b) (every (in_class Line) bs) h in
+    let a = and_parts (in_line b) (every in_line bs) h in
     rw (not-true (eqb b 10) a.0) (ap (onto b) (lines_line bs t a.1))
 
 lines_listing : (is : List Instr) → every an_instr is ≡ true → lines (listing is) ≡ each instr_text is

@@ -3,9 +3,8 @@ use Rattle.std.proofs.Common.{◌≡◌, ℕ, zero, suc, ◌+◌, ◌-◌, ◌<�
 use Rattle.std.proofs.lemmas.List.{take_more, drop_more, take_all, drop_all, take_rest}
 use Rattle.std.proofs.lemmas.Bool.{eq-eqb, eqb-true, cases_Bool, and_parts}
 use Rattle.std.proofs.lemmas.Bool.Decides.{nat_tests}
-use Rattle.assembler.specs.declared.words.Class.TheVariants.{Line, Name}
 use Rattle.command.specs.Machine.{pick, each}
-use Rattle.assembler.specs.Words.{front, past, behind, in_class, after_line, a_name, letter, printable}
+use Rattle.assembler.specs.Words.{front, past, behind, in_name, in_line, after_line, a_name, letter, printable}
 
 -- so far all bytes are of the front
 abbrev pub Run : (ℕ → Bool) → List ℕ → ℕ → Type 0
@@ -67,14 +66,14 @@ behind_le s [] = omega arith
 behind_le s (b ∷ bs) = elim (eqb b s) as (λ v. length (unwrap_or (pick v (Some bs) None) (b ∷ bs)) ≤ suc (length bs)) [ true ↦ omega arith | false ↦ omega arith ]
 
 after_le : (t : List ℕ) → length (after_line t) ≤ length t
-after_le t = let h = behind_le 10 (past (in_class Line) t) in let k = past_shorter (in_class Line) t in omega arith
+after_le t = let h = behind_le 10 (past in_line t) in let k = past_shorter in_line t in omega arith
 
 pub after_less : (t : List ℕ) → 0 < length t → length (after_line t) < length t
 after_less [] h = absurd (omega arith)
 after_less (b ∷ bs) h =
     let k = after_le bs in
-    ⊎_elim (λ (e : eqb b 10 ≡ true). let f = past_off (in_class Line) b bs (rw e) in rw f (simp e (omega arith)))
-    (λ (e : eqb b 10 ≡ false). let f = past_on (in_class Line) b bs (rw e) in rw f (omega arith)) (cases_Bool (eqb b 10))
+    ⊎_elim (λ (e : eqb b 10 ≡ true). let f = past_off in_line b bs (rw e) in rw f (simp e (omega arith)))
+    (λ (e : eqb b 10 ≡ false). let f = past_on in_line b bs (rw e) in rw f (omega arith)) (cases_Bool (eqb b 10))
 
 -- where nothing is past a front, each byte is of it
 past_all : (p : ℕ → Bool) (t : List ℕ) → length (past p t) ≡ 0 → (i : ℕ) → i < length t → p (get_or t i 0) ≡ true
@@ -92,13 +91,13 @@ same_each (b ∷ bs) h = cons (h 0 (omega arith)) (same_each bs (λ i l. h (suc 
     cons : {b c : ℕ} {bs cs : List ℕ} → b ≡ c → bs ≡ cs → b ∷ bs ≡ c ∷ cs
     cons p q i = p i ∷ q i
 
-name_byte : (b : ℕ) → in_class Name b ≡ true → printable b ≡ b
+name_byte : (b : ℕ) → in_name b ≡ true → printable b ≡ b
 name_byte b e = grind (arith, nat_tests)
 
 pub name_shown : (w : List ℕ) → a_name w ≡ true → each printable w ≡ w
 name_shown w h =
-    let a = and_parts (letter (get_or w 0 0)) (eqb (length (past (in_class Name) w)) 0) h in
-    same_each w (λ i l. name_byte (get_or w i 0) (past_all (in_class Name) w (eqb-true _ _ a.1) i l))
+    let a = and_parts (letter (get_or w 0 0)) (eqb (length (past in_name w)) 0) h in
+    same_each w (λ i l. name_byte (get_or w i 0) (past_all in_name w (eqb-true _ _ a.1) i l))
 
 pub each_push : {A B : Type 0} (f : A → B) (xs : List A) (y : A) → each f (xs ++ y ∷ []) ≡ each f xs ++ f y ∷ []
 each_push f [] y = refl

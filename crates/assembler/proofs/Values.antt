@@ -1,28 +1,64 @@
--- The number that digits write, digit by digit. Assumes nothing.
-use Rattle.std.proofs.Common.{◌≡◌, ℕ, ◌+◌, ◌*◌, ◌<◌, ◌≤◌, ltb, List, length, get_or, drop, Some, None, sym, ap, ◌∙◌}
-use Rattle.std.proofs.lemmas.List.{at_drop_more, at_drop_all}
-use Rattle.std.proofs.lemmas.Bool.{lt-ltb, le-ltb}
+-- The number that a word writes: below a limit, it is up to the number before the limit. Assumes nothing.
+use Rattle.std.proofs.Common.{◌≡◌, ℕ, suc, ◌+◌, ◌-◌, ◌*◌, ◌<◌, ◌≤◌, true, false, eqb, leb, ltb, List, [], ◌∷◌, length, Some, None, Option, sym, refl, ap, ◌∙◌, arith, ⊎_elim, eqb-true}
+use Rattle.std.proofs.lemmas.Bool.{cases_Bool}
+use Rattle.std.proofs.lemmas.Bool.Decides.{nat_tests}
+use Rattle.scan.specs.Numbers.{onward, digit as digit_in, put_behind, longer, digits, number}
 use Rattle.command.specs.Machine.{pick}
-use Rattle.assembler.specs.Words.{value_on, digit_of}
+use Rattle.assembler.specs.Words.{value_on, digit_of, number_below}
 
-module _ (base limit n : ℕ) (t : List ℕ) (i d : ℕ) where
-  value_at : i < length t → d ≡ digit_of (get_or t i 0)
-      → value_on base limit n (drop i t) ≡ pick (ltb d base) (pick (ltb (n * base + d) limit) (value_on base limit (n * base + d) (drop (i + 1) t)) None) None
+digit_same : (base b : ℕ) → base ≤ 16 → digit_in base b ≡ pick (ltb (digit_of b) base) (Some (digit_of b)) None
+digit_same base b h = grind (arith, nat_tests)
+
+up_to : (n most : ℕ) → leb n most ≡ ltb n (suc most)
+up_to n most = grind (arith, nat_tests)
+
+module _ (base most : ℕ) (h : base ≤ 16) where
+  pub on_same : (n : ℕ) (bs : List ℕ) → digits base most n bs ≡ value_on base (suc most) n bs
   unfolding value_on
-  value_at h e =
-      at_drop_more (value_on base limit n) t i 0 h
-      ∙ sym (ap (λ k. pick (ltb k base) (pick (ltb (n * base + k) limit) (value_on base limit (n * base + k) (drop (i + 1) t)) None) None) e)
+  on_same n [] = refl
+  on_same n (b ∷ bs) =
+      let m = n * base + digit_of b in
+      ap (λ o. onward (onward o (λ d. put_behind n d base most)) (λ k. digits base most k bs)) (digit_same base b h)
+      ∙ ⊎_elim
+      (λ (e : ltb (digit_of b) base ≡ true). rw e
+      (⊎_elim (λ (f : ltb m (suc most) ≡ true). rw (up_to m most ∙ f, f) (on_same m bs)) (λ (f : ltb m (suc most) ≡ false). rw (up_to m most ∙ f, f) refl) (cases_Bool (ltb m (suc most)))))
+      (λ (e : ltb (digit_of b) base ≡ false). rw e refl) (cases_Bool (ltb (digit_of b) base))
 
-  pub value_no_digit : i < length t → d ≡ digit_of (get_or t i 0) → base ≤ d → value_on base limit n (drop i t) ≡ None
-  value_no_digit h e g = value_at h e ∙ rw (le-ltb d base g)
+no_digit : (most : ℕ) (o : Option ℕ) → onward o (λ n. digits 10 most n (120 ∷ [])) ≡ None
+no_digit most None = refl
+no_digit most (Some n) = refl
 
-  pub value_over : i < length t → d ≡ digit_of (get_or t i 0) → d < base → limit ≤ n * base + d → value_on base limit n (drop i t) ≡ None
-  value_over h e g k = value_at h e ∙ rw (lt-ltb d base g, le-ltb (n * base + d) limit k)
+no_value : (most a b : ℕ) → b ≡ 120 → value_on 10 (suc most) 0 (a ∷ b ∷ []) ≡ None
+no_value most a b e =
+    sym (on_same 10 most (omega arith) 0 (a ∷ b ∷ []))
+    ∙ ap (λ c. digits 10 most 0 (a ∷ c ∷ [])) e ∙ no_digit most (longer 10 most 0 a)
 
-  pub value_turn : i < length t → d ≡ digit_of (get_or t i 0) → d < base → n * base + d < limit
-      → value_on base limit n (drop i t) ≡ value_on base limit (n * base + d) (drop (i + 1) t)
-  value_turn h e g k = value_at h e ∙ rw (lt-ltb d base g, lt-ltb (n * base + d) limit k)
+long : (a b c : ℕ) (cs : List ℕ) → ltb 2 (length (a ∷ b ∷ c ∷ cs)) ≡ true
+long a b c cs = grind (arith, nat_tests)
 
-pub value_end : (base limit n : ℕ) (t : List ℕ) (i : ℕ) → length t ≤ i → value_on base limit n (drop i t) ≡ Some n
-unfolding value_on
-value_end base limit n t i h = at_drop_all (value_on base limit n) t i h
+some : (c : ℕ) (cs : List ℕ) → eqb (length (c ∷ cs)) 0 ≡ false
+some c cs = grind (arith, nat_tests)
+
+same_suc : (most : ℕ) (w : List ℕ) → number most w ≡ number_below (suc most) w
+same_suc most [] = refl
+same_suc most (a ∷ []) =
+    on_same 10 most (omega arith) 0 (a ∷ [])
+    ∙ ⊎_elim (λ (e : eqb a 48 ≡ true). rw e refl) (λ (e : eqb a 48 ≡ false). rw e refl) (cases_Bool (eqb a 48))
+same_suc most (a ∷ b ∷ []) =
+    on_same 10 most (omega arith) 0 (a ∷ b ∷ [])
+    ∙ ⊎_elim
+    (λ (e : eqb a 48 ≡ true). ⊎_elim (λ (f : eqb b 120 ≡ true). rw (e, f) (no_value most a b (eqb-true b 120 f))) (λ (f : eqb b 120 ≡ false). rw (e, f) refl) (cases_Bool (eqb b 120)))
+    (λ (e : eqb a 48 ≡ false). rw e refl) (cases_Bool (eqb a 48))
+same_suc most (a ∷ b ∷ c ∷ cs) =
+    let l = long a b c cs in
+    let s = some c cs in
+    let t = some a (b ∷ c ∷ cs) in
+    ⊎_elim
+    (λ (e : eqb a 48 ≡ true). ⊎_elim (λ (f : eqb b 120 ≡ true). rw (l, e, f, s) (on_same 16 most (omega arith) 0 (c ∷ cs))) (λ (f : eqb b 120 ≡ false). rw (l, e, f, t) (on_same 10 most (omega arith) 0 (a ∷ b ∷ c ∷ cs))) (cases_Bool (eqb b 120)))
+    (λ (e : eqb a 48 ≡ false). rw (l, e, t) (on_same 10 most (omega arith) 0 (a ∷ b ∷ c ∷ cs))) (cases_Bool (eqb a 48))
+
+pub number_same : (limit : ℕ) (w : List ℕ) → 0 < limit → number (limit - 1) w ≡ number_below limit w
+number_same limit w l =
+    let m = limit - 1 in
+    let e : suc m ≡ limit = omega arith in
+    same_suc m w ∙ ap (λ k. number_below k w) e

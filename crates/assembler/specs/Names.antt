@@ -39,3 +39,16 @@ op_name n = (get_or ops n ([], 0)).0
 
 abbrev pub comparison_name : ℕ → List ℕ
 comparison_name n = slice_index_or (codes "equal" ∷ codes "unequal" ∷ codes "below" ∷ codes "not below" ∷ []) n []
+
+abbrev pub mnemonic_name : Mnemonic → List ℕ
+mnemonic_name Load = codes "load"
+mnemonic_name Copied = codes "copy"
+mnemonic_name Reckon = codes "reckon"
+mnemonic_name Read = codes "read"
+mnemonic_name Write = codes "write"
+mnemonic_name Jump = codes "jump"
+mnemonic_name Call = codes "call"
+mnemonic_name Return = codes "return"
+mnemonic_name In = codes "in"
+mnemonic_name Out = codes "out"
+mnemonic_name Halt = codes "halt"

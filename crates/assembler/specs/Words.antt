@@ -1,10 +1,9 @@
 -- The words of a line, names and numbers. Assumes nothing: these are definitions.
-use Rattle.std.specs.Prelude.{◌≡◌, ℕ, ◌+◌, ◌-◌, ◌*◌, Bool, true, not, ◌&&◌, List, [], ◌∷◌, length, Some, None, Option, MatchOption, ◌==◌, nat_le, nat_lt, slice_index}
+use Rattle.std.specs.Prelude.{◌≡◌, ℕ, ◌+◌, ◌-◌, ◌*◌, Bool, not, ◌&&◌, List, [], ◌∷◌, length, Some, None, Option, MatchOption, ◌==◌, nat_le, nat_lt, slice_index}
 use Rattle.std.specs.Borrow.{Bor}
 use Rattle.std.specs.Option.{unwrap_or}
+use Rattle.scan.specs.Fronts.{over as is_over}
 use Rattle.command.specs.Machine.{pick, or}
-use Rattle.assembler.specs.declared.words.Class.{Class}
-use Rattle.assembler.specs.declared.words.Class.TheVariants.{Blank, Word, Name, Line}
 
 abbrev pub within : ℕ → ℕ → ℕ → Bool
 within low high b = nat_le low b && nat_le b high
@@ -20,11 +19,14 @@ abbrev pub digit : ℕ → Bool
 digit b = within 48 57 b
 
 -- a word ends at a blank, a comma, a colon or the # of a comment
-abbrev pub in_class : Class → ℕ → Bool
-in_class Blank b = blank b
-in_class Word b = not (or (blank b) (or (b == 44) (or (b == 58) (b == 35))))
-in_class Name b = or (letter b) (digit b)
-in_class Line b = not (b == 10)
+abbrev pub in_word : ℕ → Bool
+in_word b = not (or (blank b) (or (b == 44) (or (b == 58) (b == 35))))
+
+abbrev pub in_name : ℕ → Bool
+in_name b = or (letter b) (digit b)
+
+abbrev pub in_line : ℕ → Bool
+in_line b = not (b == 10)
 
 -- the longest front of such bytes, and what is past it
 unfoldable pub front : (ℕ → Bool) → List ℕ → List ℕ
@@ -45,13 +47,13 @@ abbrev pub Behind : Option (Bor (List ℕ)) → Option (List ℕ) → Type 0
 Behind r o = MatchOption r (o ≡ None) (λ u. o ≡ Some u.now)
 
 abbrev pub word : List ℕ → List ℕ
-word t = front (in_class Word) t
+word t = front in_word t
 
 abbrev pub past_word : List ℕ → List ℕ
-past_word t = past (in_class Word) t
+past_word t = past in_word t
 
 abbrev pub spaced : List ℕ → List ℕ
-spaced t = past (in_class Blank) t
+spaced t = past blank t
 
 -- past what is blank, and a comma at most
 abbrev pub past_comma : List ℕ → Option (List ℕ) → List ℕ
@@ -63,18 +65,17 @@ separated t = past_comma (spaced t) (behind 44 (spaced t))
 
 -- the first line, and what is past it and its end
 abbrev pub line_of : List ℕ → List ℕ
-line_of t = front (in_class Line) t
+line_of t = front in_line t
 
 abbrev pub after_line : List ℕ → List ℕ
-after_line t = unwrap_or (behind 10 (past (in_class Line) t)) (past (in_class Line) t)
+after_line t = unwrap_or (behind 10 (past in_line t)) (past in_line t)
 
 -- nothing more but a comment
 abbrev pub over : List ℕ → Bool
-over [] = true
-over (b ∷ bs) = b == 35
+over t = is_over t
 
 abbrev pub a_name : List ℕ → Bool
-a_name w = letter (slice_index w 0) && length (past (in_class Name) w) == 0
+a_name w = letter (slice_index w 0) && length (past in_name w) == 0
 
 -- what a digit stands for, and 16 for what is none
 abbrev pub digit_of : ℕ → ℕ

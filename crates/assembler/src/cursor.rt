@@ -1,11 +1,14 @@
 // What is left of a line while it is read. Where a reading goes wrong, the cursor stays at what is wrong.
 ghost use Rattle.std.specs.Prelude.{◌≡◌};
 ghost use Rattle.std.specs.Option.{option_map};
-ghost use Rattle.assembler.specs.Words.{spaced, separated};
-ghost use Rattle.assembler.specs.Reading.{Took, itself, left, label, ended, shown_name, NamedAlone};
+ghost use Rattle.std.specs.Prelude.{Result};
+ghost use Rattle.std.specs.Fn.{FnOnceReturnsAt};
+ghost use Rattle.assembler.specs.Words.{word, past_word, spaced, separated};
+ghost use Rattle.assembler.specs.Reading.{Took, itself, left, meant, label, ended, shown_name, NamedAlone};
 
 use crate::mistakes::Expected;
-use crate::words::{behind, is_name, is_over, past_blanks, past_separator, split_word};
+use crate::words::{behind, is_name, past_blanks, past_separator, split_word};
+use scan::fronts::is_over;
 
 #[derive(Clone, Copy)]
 pub(crate) struct Cursor<'t> {
@@ -40,6 +43,20 @@ impl<'t> Cursor<'t> {
         }
         self.rest = past_blanks(more);
         Ok(Some(word))
+    }
+
+    // One word, as what it is read as.
+    pub(crate) fn take_word<T, F: FnOnce(&[u8]) -> Result<T, Expected>>(
+        &mut self,
+        read: F,
+    ) -> Result<T, Expected>
+        requires { F.IsAlwaysCallable read }
+        ensures { (r : Result T Expected) × FnOnceReturnsAt F.FnOnce read (word (left self.old)) r × Took itself (meant r (left self.old) (past_word (left self.old))) result (left self.new) }
+    {
+        let (word, rest) = split_word(self.rest);
+        let value = read(word)?;
+        self.rest = rest;
+        Ok(value)
     }
 
     // Nothing more on the line but a comment.

@@ -1,11 +1,11 @@
 // One instruction of a line: its mnemonic and its operands.
-ghost use Rattle.std.specs.Prelude.{◌≡◌};
+ghost use Rattle.std.specs.Prelude.{◌≡◌, ℕ, ◌<◌, IfOk};
 ghost use Rattle.std.specs.Option.{option_map};
 ghost use Rattle.command.specs.Codes.{op_number, comparison_number, code};
-ghost use Rattle.command.specs.Machine.{read as read_instr, write as write_instr, call as call_instr, take_in, put_out};
-ghost use Rattle.assembler.specs.Words.{separated};
-ghost use Rattle.assembler.specs.Reading.{Took, itself, left};
-ghost use Rattle.assembler.specs.Instructions.{reg_number, comparison_of, labels_of, register_named, place_named, register, next_register, next_number, next_offset, place, operation, comparison, below, mnemonic, load_operands, copy_operands, reckon_operands, word_operands, jump_if_operands, to_place, jump_operands, one_register, operands, instruction};
+ghost use Rattle.command.specs.Machine.{Instr as InstrMeant};
+ghost use Rattle.assembler.specs.Words.{separated, number_below};
+ghost use Rattle.assembler.specs.Reading.{Took, itself, left, a_word};
+ghost use Rattle.assembler.specs.Instructions.{reg_number, comparison_of, labels_of, register_named, place_named, register, next_register, place, operation, comparison, below, mnemonic, load_operands, copy_operands, reckon_operands, word_operands, jump_if_operands, jump_operands, operands, instruction};
 
 use crate::cursor::Cursor;
 use crate::labels::{Label, place_of};
@@ -38,22 +38,15 @@ fn place_named(word: &[u8], labels: &[Label]) -> Result<u16, Expected>
     if is_name(word) {
         return place_of(labels, word).ok_or(Expected::KnownLabel);
     }
-    match number_below(word, PLACES) {
-        Some(number) => Ok(number as u16),
-        None => Err(Expected::Place),
-    }
+    let number = number_below(word, PLACES).ok_or(Expected::Place)?;
+    Ok(number as u16)
 }
 
 impl Cursor<'_> {
     fn register(&mut self) -> Result<Reg, Expected>
         ensures { Took reg_number (register (left self.old)) result (left self.new) }
     {
-        let (word, rest) = split_word(self.rest);
-        let Some(register) = register_named(word) else {
-            return Err(Expected::Register);
-        };
-        self.rest = rest;
-        Ok(register)
+        self.take_word(|word| register_named(word).ok_or(Expected::Register))
     }
 
     // One more register, after a separator.
@@ -64,37 +57,23 @@ impl Cursor<'_> {
         self.register()
     }
 
-    fn next_number(&mut self) -> Result<u32, Expected>
-        ensures { Took itself (next_number (left self.old)) result (left self.new) }
+    // A number below a limit, after a separator.
+    fn next_below(&mut self, limit: u64, expected: Expected) -> Result<u64, Expected>
+        requires { 0 < limit }
+        ensures value { Took itself (a_word expected (number_below limit) (separated (left self.old))) result (left self.new) }
+        ensures bound { IfOk result (λ n. n < limit) }
     {
         self.skip_separator();
         let (word, rest) = split_word(self.rest);
-        let Some(number) = number_below(word, NUMBERS) else {
-            return Err(Expected::Number);
-        };
+        let number = number_below(word, limit).ok_or(expected)?;
         self.rest = rest;
-        Ok(number as u32)
-    }
-
-    fn next_offset(&mut self) -> Result<u16, Expected>
-        ensures { Took itself (next_offset (left self.old)) result (left self.new) }
-    {
-        self.skip_separator();
-        let (word, rest) = split_word(self.rest);
-        let Some(number) = number_below(word, PLACES) else {
-            return Err(Expected::Offset);
-        };
-        self.rest = rest;
-        Ok(number as u16)
+        Ok(number)
     }
 
     fn place(&mut self, labels: &[Label]) -> Result<u16, Expected>
         ensures { Took itself (place (labels_of labels.now) (left self.old)) result (left self.new) }
     {
-        let (word, rest) = split_word(self.rest);
-        let place = place_named(word, labels)?;
-        self.rest = rest;
-        Ok(place)
+        self.take_word(|word| place_named(word, labels))
     }
 
     fn next_place(&mut self, labels: &[Label]) -> Result<u16, Expected>
@@ -107,12 +86,7 @@ impl Cursor<'_> {
     fn op(&mut self) -> Result<Op, Expected>
         ensures { Took op_number (operation (left self.old)) result (left self.new) }
     {
-        let (word, rest) = split_word(self.rest);
-        let Some(op) = op_named(word) else {
-            return Err(Expected::Operation);
-        };
-        self.rest = rest;
-        Ok(op)
+        self.take_word(|word| op_named(word).ok_or(Expected::Operation))
     }
 
     // The comparison of a jump, if it is a jump on a condition.
@@ -147,20 +121,15 @@ impl Cursor<'_> {
     fn mnemonic(&mut self) -> Result<Mnemonic, Expected>
         ensures { Took itself (mnemonic (left self.old)) result (left self.new) }
     {
-        let (word, rest) = split_word(self.rest);
-        let Some(mnemonic) = mnemonic_named(word) else {
-            return Err(Expected::Mnemonic);
-        };
-        self.rest = rest;
-        Ok(mnemonic)
+        self.take_word(|word| mnemonic_named(word).ok_or(Expected::Mnemonic))
     }
 
     fn load(&mut self) -> Result<Instr, Expected>
         ensures { Took code (load_operands (left self.old)) result (left self.new) }
     {
         let to = self.register()?;
-        let number = self.next_number()?;
-        Ok(Instr::Load(to, number))
+        let number = self.next_below(NUMBERS, Expected::Number)?;
+        Ok(Instr::Load(to, number as u32))
     }
 
     fn copied(&mut self) -> Result<Instr, Expected>
@@ -181,22 +150,14 @@ impl Cursor<'_> {
         Ok(Instr::Reckon(op, to, by))
     }
 
-    fn read(&mut self) -> Result<Instr, Expected>
-        ensures { Took code (word_operands read_instr (left self.old)) result (left self.new) }
+    // A register, and the word that a register and an offset name.
+    fn word_operands(&mut self) -> Result<(Reg, Reg, u16), Expected>
+        ensures { (f : ℕ → ℕ → ℕ → InstrMeant) → Took (λ p. f (reg_number p.0) (reg_number p.1) p.2) (word_operands f (left self.old)) result (left self.new) }
     {
-        let to = self.register()?;
+        let register = self.register()?;
         let base = self.next_register()?;
-        let offset = self.next_offset()?;
-        Ok(Instr::Read(to, base, offset))
-    }
-
-    fn write(&mut self) -> Result<Instr, Expected>
-        ensures { Took code (word_operands write_instr (left self.old)) result (left self.new) }
-    {
-        let from = self.register()?;
-        let base = self.next_register()?;
-        let offset = self.next_offset()?;
-        Ok(Instr::Write(from, base, offset))
+        let offset = self.next_below(PLACES, Expected::Offset)?;
+        Ok((register, base, offset as u16))
     }
 
     fn jump(&mut self, labels: &[Label]) -> Result<Instr, Expected>
@@ -204,10 +165,7 @@ impl Cursor<'_> {
     {
         match self.comparison()? {
             Some(comparison) => self.jump_if(comparison, labels),
-            None => {
-                let place = self.place(labels)?;
-                Ok(Instr::Jump(place))
-            }
+            None => Ok(Instr::Jump(self.place(labels)?)),
         }
     }
 
@@ -221,27 +179,6 @@ impl Cursor<'_> {
         Ok(Instr::JumpIf(comparison, first, second, place))
     }
 
-    fn call(&mut self, labels: &[Label]) -> Result<Instr, Expected>
-        ensures { Took code (to_place (labels_of labels.now) call_instr (left self.old)) result (left self.new) }
-    {
-        let place = self.place(labels)?;
-        Ok(Instr::Call(place))
-    }
-
-    fn into(&mut self) -> Result<Instr, Expected>
-        ensures { Took code (one_register take_in (left self.old)) result (left self.new) }
-    {
-        let to = self.register()?;
-        Ok(Instr::In(to))
-    }
-
-    fn out(&mut self) -> Result<Instr, Expected>
-        ensures { Took code (one_register put_out (left self.old)) result (left self.new) }
-    {
-        let from = self.register()?;
-        Ok(Instr::Out(from))
-    }
-
     // What follows a mnemonic.
     fn operands(&mut self, mnemonic: Mnemonic, labels: &[Label]) -> Result<Instr, Expected>
         ensures { Took code (operands (labels_of labels.now) mnemonic (left self.old)) result (left self.new) }
@@ -250,13 +187,19 @@ impl Cursor<'_> {
             Mnemonic::Load => self.load(),
             Mnemonic::Copied => self.copied(),
             Mnemonic::Reckon => self.reckon(),
-            Mnemonic::Read => self.read(),
-            Mnemonic::Write => self.write(),
+            Mnemonic::Read => {
+                let (to, base, offset) = self.word_operands()?;
+                Ok(Instr::Read(to, base, offset))
+            }
+            Mnemonic::Write => {
+                let (from, base, offset) = self.word_operands()?;
+                Ok(Instr::Write(from, base, offset))
+            }
             Mnemonic::Jump => self.jump(labels),
-            Mnemonic::Call => self.call(labels),
+            Mnemonic::Call => Ok(Instr::Call(self.place(labels)?)),
             Mnemonic::Return => Ok(Instr::Return),
-            Mnemonic::In => self.into(),
-            Mnemonic::Out => self.out(),
+            Mnemonic::In => Ok(Instr::In(self.register()?)),
+            Mnemonic::Out => Ok(Instr::Out(self.register()?)),
             Mnemonic::Halt => Ok(Instr::Halt),
         }
     }

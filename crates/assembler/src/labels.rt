@@ -15,10 +15,8 @@ pub struct Label {
 pub(crate) fn place_of(labels: &[Label], name: &[u8]) -> Option<u16>
     ensures { result ≡ place_of (labels_of labels.now) name.now }
 {
-    for label in labels {
-        if is_word(label.name.as_bytes(), name) {
-            return Some(label.place);
-        }
-    }
-    None
+    let named = labels
+        .iter()
+        .find(|label| is_word(label.name.as_bytes(), name));
+    named.map(|label| label.place)
 }

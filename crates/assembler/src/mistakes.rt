@@ -3,12 +3,13 @@ ghost use Rattle.std.specs.Prelude.{◌≡◌, IfOk, Some};
 ghost use Rattle.assembler.specs.declared.mistakes.AssembleError.TheVariants.{NoMemory};
 ghost use Rattle.assembler.specs.Source.{found_at, mistake_on, mistake_of, Tells, expected_text, mistake_text};
 
-use crate::words::{is_over, shown, split_word};
+use crate::words::{Line, shown, split_word};
+use scan::fronts::is_over;
 use std::alloc::{AllocError, AllocFailed, Global};
 use std::fmt;
 
 // What was expected where something else stood.
-#[derive(Clone, Copy)]
+#[derive(Clone, Copy, Debug, PartialEq, Eq)]
 pub enum Expected {
     Mnemonic,
     Operation,
@@ -85,18 +86,17 @@ impl Mistake {
     // A mistake on the line of a number, with what is left of the line where it stands.
     pub(crate) fn on(
         heap: Global,
-        number: usize,
-        line: &[u8],
+        line: Line<'_>,
         left: &[u8],
         expected: Expected,
     ) -> Result<Mistake, AllocError>
-        ensures { IfOk result (λ m. mistake_on number line.now expected left.now ≡ mistake_of m) }
+        ensures { IfOk result (λ m. mistake_on line.entry.number line.entry.text.now expected left.now ≡ mistake_of m) }
     {
         let found = shown(heap, found_at(left))?;
         Ok(Mistake {
-            line: number,
+            line: line.number,
             // What is left of a line is no longer than the line, so nothing is cut off here.
-            column: line.len().saturating_sub(left.len()) + 1,
+            column: line.text.len().saturating_sub(left.len()) + 1,
             found,
             expected,
         })
@@ -133,19 +133,13 @@ pub enum AssembleError {
 
 impl AssembleError {
     // The mistake, or the want of memory to tell it.
-    pub(crate) fn on(
-        heap: Global,
-        number: usize,
-        line: &[u8],
-        left: &[u8],
-        expected: Expected,
-    ) -> AssembleError
-        ensures { Tells (mistake_on number line.now expected left.now) result }
+    pub(crate) fn on(heap: Global, line: Line<'_>, left: &[u8], expected: Expected) -> AssembleError
+        ensures { Tells (mistake_on line.entry.number line.entry.text.now expected left.now) result }
     {
-        match Mistake::on(heap, number, line, left, expected) {
-            Ok(mistake) => AssembleError::Wrong(mistake),
-            Err(_) => AssembleError::NoMemory,
-        }
+        Mistake::on(heap, line, left, expected).map_or(
+            AssembleError::NoMemory,
+            AssembleError::Wrong,
+        )
     }
 }
 

@@ -3,11 +3,11 @@ ghost use Rattle.std.specs.Prelude.{◌≡◌};
 ghost use Rattle.std.specs.Option.{option_map};
 ghost use Rattle.std.specs.Str.{bytes_eq};
 ghost use Rattle.command.specs.Codes.{op_number, comparison_number};
-ghost use Rattle.assembler.specs.Names.{mnemonic_named, op_named, op_name, comparison_named, comparison_name};
+ghost use Rattle.assembler.specs.Names.{mnemonic_name, mnemonic_named, op_named, op_name, comparison_named, comparison_name};
 
 use command::code::{Comparison, Op};
 
-#[derive(Clone, Copy)]
+#[derive(Clone, Copy, Debug, PartialEq, Eq)]
 pub(crate) enum Mnemonic {
     Load,
     Copied,
@@ -22,6 +22,36 @@ pub(crate) enum Mnemonic {
     Halt,
 }
 
+const MNEMONICS: [Mnemonic; 11] = [
+    Mnemonic::Load,
+    Mnemonic::Copied,
+    Mnemonic::Reckon,
+    Mnemonic::Read,
+    Mnemonic::Write,
+    Mnemonic::Jump,
+    Mnemonic::Call,
+    Mnemonic::Return,
+    Mnemonic::In,
+    Mnemonic::Out,
+    Mnemonic::Halt,
+];
+
+const OPS: [Op; 10] = [
+    Op::Sum,
+    Op::Difference,
+    Op::Product,
+    Op::Quotient,
+    Op::Remainder,
+    Op::And,
+    Op::Or,
+    Op::Either,
+    Op::Left,
+    Op::Right,
+];
+
+// The comparisons of one word: `not below` has two.
+const COMPARISONS: [Comparison; 3] = [Comparison::Equal, Comparison::Unequal, Comparison::Less];
+
 // A word is a name.
 pub(crate) fn is_word(word: &[u8], name: &[u8]) -> bool
     ensures { result ≡ bytes_eq word.now name.now }
@@ -29,62 +59,31 @@ pub(crate) fn is_word(word: &[u8], name: &[u8]) -> bool
     word == name
 }
 
-pub(crate) fn mnemonic_named(word: &[u8]) -> Option<Mnemonic>
-    ensures { result ≡ mnemonic_named word.now }
+fn mnemonic_name(mnemonic: Mnemonic) -> &'static str
+    ensures { result.now ≡ mnemonic_name mnemonic }
 {
-    if is_word(word, b"load") {
-        Some(Mnemonic::Load)
-    } else if is_word(word, b"copy") {
-        Some(Mnemonic::Copied)
-    } else if is_word(word, b"reckon") {
-        Some(Mnemonic::Reckon)
-    } else if is_word(word, b"read") {
-        Some(Mnemonic::Read)
-    } else if is_word(word, b"write") {
-        Some(Mnemonic::Write)
-    } else if is_word(word, b"jump") {
-        Some(Mnemonic::Jump)
-    } else if is_word(word, b"call") {
-        Some(Mnemonic::Call)
-    } else if is_word(word, b"return") {
-        Some(Mnemonic::Return)
-    } else if is_word(word, b"in") {
-        Some(Mnemonic::In)
-    } else if is_word(word, b"out") {
-        Some(Mnemonic::Out)
-    } else if is_word(word, b"halt") {
-        Some(Mnemonic::Halt)
-    } else {
-        None
+    match mnemonic {
+        Mnemonic::Load => "load",
+        Mnemonic::Copied => "copy",
+        Mnemonic::Reckon => "reckon",
+        Mnemonic::Read => "read",
+        Mnemonic::Write => "write",
+        Mnemonic::Jump => "jump",
+        Mnemonic::Call => "call",
+        Mnemonic::Return => "return",
+        Mnemonic::In => "in",
+        Mnemonic::Out => "out",
+        Mnemonic::Halt => "halt",
     }
 }
 
-pub(crate) fn op_named(word: &[u8]) -> Option<Op>
-    ensures { option_map op_number result ≡ op_named word.now }
+pub(crate) fn mnemonic_named(word: &[u8]) -> Option<Mnemonic>
+    ensures { result ≡ mnemonic_named word.now }
 {
-    if is_word(word, b"sum") {
-        Some(Op::Sum)
-    } else if is_word(word, b"difference") {
-        Some(Op::Difference)
-    } else if is_word(word, b"product") {
-        Some(Op::Product)
-    } else if is_word(word, b"quotient") {
-        Some(Op::Quotient)
-    } else if is_word(word, b"remainder") {
-        Some(Op::Remainder)
-    } else if is_word(word, b"and") {
-        Some(Op::And)
-    } else if is_word(word, b"or") {
-        Some(Op::Or)
-    } else if is_word(word, b"either") {
-        Some(Op::Either)
-    } else if is_word(word, b"left") {
-        Some(Op::Left)
-    } else if is_word(word, b"right") {
-        Some(Op::Right)
-    } else {
-        None
-    }
+    let named = MNEMONICS
+        .iter()
+        .find(|x| is_word(word, mnemonic_name(**x).as_bytes()));
+    named.copied()
 }
 
 pub(crate) fn op_name(op: Op) -> &'static str
@@ -104,19 +103,11 @@ pub(crate) fn op_name(op: Op) -> &'static str
     }
 }
 
-// The comparisons of one word: `not below` has two.
-pub(crate) fn comparison_named(word: &[u8]) -> Option<Comparison>
-    ensures { option_map comparison_number result ≡ comparison_named word.now }
+pub(crate) fn op_named(word: &[u8]) -> Option<Op>
+    ensures { option_map op_number result ≡ op_named word.now }
 {
-    if is_word(word, b"equal") {
-        Some(Comparison::Equal)
-    } else if is_word(word, b"unequal") {
-        Some(Comparison::Unequal)
-    } else if is_word(word, b"below") {
-        Some(Comparison::Less)
-    } else {
-        None
-    }
+    let named = OPS.iter().find(|x| is_word(word, op_name(**x).as_bytes()));
+    named.copied()
 }
 
 pub fn comparison_name(comparison: Comparison) -> &'static str
@@ -128,4 +119,13 @@ pub fn comparison_name(comparison: Comparison) -> &'static str
         Comparison::Less => "below",
         Comparison::NotLess => "not below",
     }
+}
+
+pub(crate) fn comparison_named(word: &[u8]) -> Option<Comparison>
+    ensures { option_map comparison_number result ≡ comparison_named word.now }
+{
+    let named = COMPARISONS
+        .iter()
+        .find(|x| is_word(word, comparison_name(**x).as_bytes()));
+    named.copied()
 }

@@ -10,8 +10,9 @@ ghost use Rattle.assembler.specs.Source.{new_label, next_place, noted, read_labe
 use crate::cursor::Cursor;
 use crate::labels::{Label, place_of};
 use crate::mistakes::{AssembleError, Expected};
-use crate::words::{is_over, past_blanks, shown, split_line};
+use crate::words::{Line, past_blanks, shown, split_line};
 use command::code::Instr;
+use scan::fronts::is_over;
 use std::alloc::{AllocError, Global};
 
 #[derive(Drop)]
@@ -78,16 +79,16 @@ fn line_label<'t>(
     heap: Global,
     labels: &[Label],
     place: u16,
-    number: usize,
-    line: &'t [u8],
+    line: Line<'t>,
 ) -> Result<(Option<&'t [u8]>, u16), AssembleError>
-    ensures read { Answers noted (line_label number (labels_of labels.now) place line.now) result }
+    ensures read { Answers noted (line_label line.entry.number (labels_of labels.now) place line.entry.text.now) result }
     ensures named { Named result }
 {
-    let mut cursor = Cursor { rest: line };
+    let mut cursor = Cursor { rest: line.text };
+    // A match, as in `line_instr`: the contract of a closure for `map_err` would not say which mistake it tells.
     match read_label(&mut cursor, labels, place) {
         Ok(label) => Ok(label),
-        Err(expected) => Err(AssembleError::on(heap, number, line, cursor.rest, expected)),
+        Err(expected) => Err(AssembleError::on(heap, line, cursor.rest, expected)),
     }
 }
 
@@ -117,8 +118,8 @@ fn find_labels(heap: Global, text: &[u8]) -> Result<Vec<Label>, AssembleError>
     let mut number: usize = 1;
     let mut rest = text;
     while !rest.is_empty() {
-        let (line, more) = split_line(rest);
-        let (name, next) = line_label(heap, &labels, place, number, line)?;
+        let (text, more) = split_line(rest);
+        let (name, next) = line_label(heap, &labels, place, Line { number, text })?;
         put_label(heap, &mut labels, name, place)?;
         place = next;
         number += 1;
@@ -143,15 +144,14 @@ fn read_line(cursor: &mut Cursor<'_>, labels: &[Label]) -> Result<Option<Instr>,
 fn line_instr(
     heap: Global,
     labels: &[Label],
-    number: usize,
-    line: &[u8],
+    line: Line<'_>,
 ) -> Result<Option<Instr>, AssembleError>
-    ensures { Answers instr_of (line_instr number (labels_of labels.now) line.now) result }
+    ensures { Answers instr_of (line_instr line.entry.number (labels_of labels.now) line.entry.text.now) result }
 {
-    let mut cursor = Cursor { rest: line };
+    let mut cursor = Cursor { rest: line.text };
     match read_line(&mut cursor, labels) {
         Ok(instr) => Ok(instr),
-        Err(expected) => Err(AssembleError::on(heap, number, line, cursor.rest, expected)),
+        Err(expected) => Err(AssembleError::on(heap, line, cursor.rest, expected)),
     }
 }
 
@@ -173,8 +173,8 @@ fn read_lines(heap: Global, text: &[u8], labels: &[Label]) -> Result<Vec<Instr>,
     let mut number: usize = 1;
     let mut rest = text;
     while !rest.is_empty() {
-        let (line, more) = split_line(rest);
-        let instr = line_instr(heap, labels, number, line)?;
+        let (text, more) = split_line(rest);
+        let instr = line_instr(heap, labels, Line { number, text })?;
         put_instr(&mut program, instr)?;
         number += 1;
         rest = more;

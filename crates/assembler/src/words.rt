@@ -1,34 +1,11 @@
 // The words of a line: blanks, words, names and numbers.
-ghost use Rattle.std.specs.Prelude.{◌≡◌, ◌^◌, ◌<◌, ◌≤◌, length, IfSome, IfOk, string_bytes};
+ghost use Rattle.std.specs.Prelude.{◌≡◌, ◌<◌, length, IfSome, IfOk, string_bytes};
 ghost use Rattle.command.specs.Machine.{each};
-ghost use Rattle.assembler.specs.Words.{blank, letter, digit, in_class, front, past, word, past_word, spaced, separated, over, a_name, digit_of, value_below, number_below, printable, behind, hex_digits, Behind, line_of, after_line};
+ghost use Rattle.assembler.specs.Words.{blank, letter, digit, in_word, in_name, in_line, word, past_word, spaced, separated, a_name, number_below, printable, behind, Behind, line_of, after_line};
 
+use scan::fronts::split_while;
+use scan::numbers::number_up_to;
 use std::alloc::{AllocError, Global};
-
-// What a run of bytes is made of.
-#[derive(Clone, Copy)]
-pub(crate) enum Class {
-    Blank,
-    // All but blanks, commas, colons and the sign of a comment.
-    Word,
-    // Letters, digits and underscores.
-    Name,
-    // All but the line's end.
-    Line,
-}
-
-impl Class {
-    pub(crate) fn has(self, b: u8) -> bool
-        ensures { result ≡ in_class self b }
-    {
-        match self {
-            Class::Blank => is_blank(b),
-            Class::Word => !(is_blank(b) || b == b',' || b == b':' || b == b'#'),
-            Class::Name => is_letter(b) || is_digit(b),
-            Class::Line => b != b'\n',
-        }
-    }
-}
 
 fn is_blank(b: u8) -> bool
     ensures { result ≡ blank b }
@@ -48,17 +25,25 @@ fn is_digit(b: u8) -> bool
     b'0' <= b && b <= b'9'
 }
 
-// The longest front of a class, and the rest.
-fn split_while(text: &[u8], class: Class) -> (&[u8], &[u8])
-    ensures run { result.0.now ≡ front (in_class class) text.now }
-    ensures rest { result.1.now ≡ past (in_class class) text.now }
+// All but blanks, commas, colons and the sign of a comment.
+fn in_word(b: u8) -> bool
+    ensures { result ≡ in_word b }
 {
-    for (i, b) in text.iter().enumerate() {
-        if !class.has(*b) {
-            return text.split_at(i);
-        }
-    }
-    text.split_at(text.len())
+    !(is_blank(b) || b == b',' || b == b':' || b == b'#')
+}
+
+// Letters, digits and underscores.
+fn in_name(b: u8) -> bool
+    ensures { result ≡ in_name b }
+{
+    is_letter(b) || is_digit(b)
+}
+
+// All but the line's end.
+fn in_line(b: u8) -> bool
+    ensures { result ≡ in_line b }
+{
+    b != b'\n'
 }
 
 // What stands behind a sign, if the text begins with it.
@@ -76,13 +61,13 @@ pub(crate) fn split_word(text: &[u8]) -> (&[u8], &[u8])
     ensures word { result.0.now ≡ word text.now }
     ensures rest { result.1.now ≡ past_word text.now }
 {
-    split_while(text, Class::Word)
+    split_while(text, in_word)
 }
 
 pub(crate) fn past_blanks(text: &[u8]) -> &[u8]
     ensures { result.now ≡ spaced text.now }
 {
-    split_while(text, Class::Blank).1
+    split_while(text, is_blank).1
 }
 
 // Past what stands between two operands: blanks, and a comma at most.
@@ -90,10 +75,14 @@ pub(crate) fn past_separator(text: &[u8]) -> &[u8]
     ensures { result.now ≡ separated text.now }
 {
     let rest = past_blanks(text);
-    match behind(rest, b',') {
-        Some(more) => past_blanks(more),
-        None => rest,
-    }
+    behind(rest, b',').map_or(rest, past_blanks)
+}
+
+// A line of a text, with its number, from 1.
+#[derive(Clone, Copy)]
+pub(crate) struct Line<'t> {
+    pub number: usize,
+    pub text: &'t [u8],
 }
 
 // The first line, and the lines after it.
@@ -102,21 +91,8 @@ pub(crate) fn split_line(text: &[u8]) -> (&[u8], &[u8])
     ensures rest { result.1.now ≡ after_line text.now }
     ensures shorter { 0 < length text.now → length result.1.now < length text.now }
 {
-    let (line, rest) = split_while(text, Class::Line);
-    match behind(rest, b'\n') {
-        Some(more) => (line, more),
-        None => (line, rest),
-    }
-}
-
-// Nothing is left of the line but a comment.
-pub(crate) fn is_over(text: &[u8]) -> bool
-    ensures { result ≡ over text.now }
-{
-    match text {
-        [] => true,
-        [b, ..] => *b == b'#',
-    }
+    let (line, rest) = split_while(text, in_line);
+    (line, behind(rest, b'\n').unwrap_or(rest))
 }
 
 // A letter or an underscore, and then letters, digits and underscores.
@@ -125,71 +101,18 @@ pub(crate) fn is_name(word: &[u8]) -> bool
 {
     match word {
         [] => false,
-        [first, ..] => is_letter(*first) && split_while(word, Class::Name).1.is_empty(),
+        [first, ..] => is_letter(*first) && split_while(word, in_name).1.is_empty(),
     }
-}
-
-// What a digit stands for; 16, which no base reaches, for any other byte.
-fn digit_value(b: u8) -> u64
-    ensures value { result ≡ digit_of b }
-    ensures bound { result ≤ 16 }
-{
-    match b {
-        b'0'..=b'9' => (b - b'0') as u64,
-        b'a'..=b'f' => (b - b'a') as u64 + 10,
-        b'A'..=b'F' => (b - b'A') as u64 + 10,
-        _ => 16,
-    }
-}
-
-const DECIMAL: u64 = 10;
-
-const HEX: u64 = 16;
-
-// The number that digits write, if there are any, and it is below a limit.
-fn value_below(digits: &[u8], base: u64, limit: u64) -> Option<u64>
-    requires base { base ≤ 16 }
-    requires some { 0 < limit }
-    requires limit { limit ≤ 2 ^ 32 }
-    ensures value { result ≡ value_below base limit digits.now }
-    ensures bound { IfSome result (λ n. n < limit) }
-{
-    if digits.is_empty() {
-        return None;
-    }
-    let mut n: u64 = 0;
-    for b in digits {
-        let d = digit_value(*b);
-        if d >= base {
-            return None;
-        }
-        n = n * base + d;
-        if n >= limit {
-            return None;
-        }
-    }
-    Some(n)
-}
-
-// What stands behind 0x.
-fn hex_digits(word: &[u8]) -> Option<&[u8]>
-    ensures { Behind result (hex_digits word.now) }
-{
-    let rest = behind(word, b'0')?;
-    behind(rest, b'x')
 }
 
 // The number that a word writes, in tens or after 0x in sixteens, if it is below a limit.
+#[tactic(auto, using(crate::proofs::Values::number_same))]
 pub(crate) fn number_below(word: &[u8], limit: u64) -> Option<u64>
-    requires some { 0 < limit }
-    requires limit { limit ≤ 2 ^ 32 }
+    requires { 0 < limit }
     ensures value { result ≡ number_below limit word.now }
     ensures bound { IfSome result (λ n. n < limit) }
 {
-    match hex_digits(word) {
-        Some(digits) => value_below(digits, HEX, limit),
-        None => value_below(word, DECIMAL, limit),
-    }
+    number_up_to(word, limit - 1)
 }
 
 // A byte as it can be shown: a sign of ASCII as it is, any other as a question mark.

@@ -1,14 +1,14 @@
 // Branches: the places that instructions name, and the instructions that name a place.
 ghost use Rattle.std.specs.Prelude.{◌≡◌, Some};
 ghost use Rattle.command.specs.Codes.{code, codes};
-ghost use Rattle.listing.specs.Branches.{branch_of, same_branch, is_branch, has_branch, sources_text, origins_text};
+ghost use Rattle.listing.specs.Branches.{branch_of, is_branch, has_branch, sources_text, origins_text};
 
 use crate::columns::Blanks;
 use command::code::Instr;
 use std::fmt;
 
 // Where an instruction may lead besides to the one behind it.
-#[derive(Clone, Copy)]
+#[derive(Clone, Copy, Debug, PartialEq, Eq)]
 pub(crate) enum Branch {
     Jump(usize),
     Call(usize),
@@ -26,24 +26,11 @@ fn branch_of(instr: Instr) -> Option<Branch>
 }
 
 impl Branch {
-    fn is(self, other: Branch) -> bool
-        ensures { result ≡ same_branch self other }
-    {
-        match (self, other) {
-            (Branch::Jump(to), Branch::Jump(place)) => to == place,
-            (Branch::Call(to), Branch::Call(place)) => to == place,
-            _ => false,
-        }
-    }
-
     // An instruction is this branch.
     fn is_of(self, instr: Instr) -> bool
         ensures { result ≡ is_branch self (code instr) }
     {
-        match branch_of(instr) {
-            Some(branch) => branch.is(self),
-            None => false,
-        }
+        branch_of(instr) == Some(self)
     }
 }
 
@@ -58,12 +45,7 @@ impl Sources<'_> {
     fn any(&self) -> bool
         ensures { result ≡ has_branch self.now.branch (codes self.now.program.now) }
     {
-        for instr in self.program {
-            if self.branch.is_of(*instr) {
-                return true;
-            }
-        }
-        false
+        self.program.iter().any(|instr| self.branch.is_of(*instr))
     }
 }
 

@@ -19,10 +19,7 @@ impl fmt::Write for Counter {
     ghost write_str_gives = { λ c bs d. d.bytes ≡ c.bytes + length bs };
 
     fn write_str(&mut self, s: &str) -> fmt::Result {
-        let Some(bytes) = self.bytes.checked_add(s.len()) else {
-            return Err(fmt::Error);
-        };
-        self.bytes = bytes;
+        self.bytes = self.bytes.checked_add(s.len()).ok_or(fmt::Error)?;
         Ok(())
     }
 }
@@ -57,7 +54,7 @@ impl fmt::Display for Blanks {
     ghost output = { λ b. Some (blanks b.count) };
 
     fn fmt<W: fmt::Write>(&self, f: &mut fmt::Formatter<W>) -> fmt::Result {
-        for i in 0..self.count {
+        for _ in 0..self.count {
             f.write_str(" ")?;
         }
         Ok(())

@@ -11,12 +11,8 @@ use std::fmt;
 fn label_of(labels: &[Label], place: usize) -> Option<&str>
     ensures { option_map (λ x. x.now) result ≡ name_of (labels_of labels.now) place }
 {
-    for label in labels {
-        if label.place as usize == place {
-            return Some(label.name.as_str());
-        }
-    }
-    None
+    let found = labels.iter().find(|label| label.place as usize == place)?;
+    Some(found.name.as_str())
 }
 
 // A place by its label, or else by its number.

@@ -76,10 +76,7 @@ impl<'a> Listing<'a> {
     fn has_arrow(&self, place: usize) -> bool
         ensures { result ≡ is_at self.now.arrow place }
     {
-        match self.arrow {
-            Some(arrow) => arrow == place,
-            None => false,
-        }
+        self.arrow == Some(place)
     }
 }
 
