@@ -1,16 +1,16 @@
 // Breaks: where the processor is to stop.
-ghost use Rattle.std.specs.Prelude.{◌≡◌, ◌<◌, ◌≤◌, MatchOption};
+ghost use Rattle.std.specs.Prelude.{◌≡◌, ◌<◌, ◌≤◌, take, MatchOption};
 
 use crate::code::{Comparison, Reg};
 
 // What a test looks at.
-#[derive(Clone, Copy)]
+#[derive(Clone, Copy, Debug, PartialEq, Eq)]
 pub enum Subject {
     Register(Reg),
     Word(u16),
 }
 
-#[derive(Clone, Copy)]
+#[derive(Clone, Copy, Debug, PartialEq, Eq)]
 pub struct Test {
     pub subject: Subject,
     pub comparison: Comparison,
@@ -18,7 +18,7 @@ pub struct Test {
 }
 
 // Holds after a step: at a place, or any if none is given; if the first `count` tests hold; if the step changed a word, or whatever if none is given.
-#[derive(Clone, Copy)]
+#[derive(Clone, Copy, Debug, PartialEq, Eq)]
 pub struct Break {
     pub place: Option<u16>,
     pub tests: [Test; 8],
@@ -46,5 +46,12 @@ impl Break {
             count,
             changed,
         })
+    }
+
+    // The tests that are to hold.
+    pub fn tests(&self) -> &[Test]
+        ensures { result.now ≡ take self.now.count self.now.tests }
+    {
+        &self.tests[..self.count as usize]
     }
 }

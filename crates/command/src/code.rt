@@ -2,7 +2,7 @@
 ghost use Rattle.std.specs.Prelude.{◌≡◌, ◌<◌, ◌≤◌, MatchOption};
 
 // One of sixteen registers.
-#[derive(Clone, Copy)]
+#[derive(Clone, Copy, Debug, PartialEq, Eq)]
 pub struct Reg {
     pub number: u8,
     ghost ok: { number < 16 },
@@ -22,7 +22,7 @@ impl Reg {
 }
 
 // What `reckon` does with two registers, modulo 2^32; shifts are by the second modulo 32.
-#[derive(Clone, Copy)]
+#[derive(Clone, Copy, Debug, PartialEq, Eq)]
 pub enum Op {
     Sum,
     Difference,
@@ -37,7 +37,7 @@ pub enum Op {
 }
 
 // How two numbers compare. Less and NotLess are `below` and `not below` at the keyboard.
-#[derive(Clone, Copy)]
+#[derive(Clone, Copy, Debug, PartialEq, Eq)]
 pub enum Comparison {
     Equal,
     Unequal,
@@ -45,7 +45,7 @@ pub enum Comparison {
     NotLess,
 }
 
-#[derive(Clone, Copy)]
+#[derive(Clone, Copy, Debug, PartialEq, Eq)]
 pub enum Instr {
     Load(Reg, u32),
     // To, from.

@@ -2,7 +2,7 @@
 use crate::breaks::Break;
 
 // A command that holds all that it says.
-#[derive(Clone, Copy)]
+#[derive(Clone, Copy, Debug, PartialEq, Eq)]
 pub enum Order {
     Forward(u64),
     Back(u64),
@@ -22,7 +22,7 @@ pub enum Order {
 }
 
 // A command as it is read. Programs and numbers stay in the text, where they can be taken out one by one: see `Cursor`.
-#[derive(Clone, Copy)]
+#[derive(Clone, Copy, Debug, PartialEq, Eq)]
 pub enum Command {
     // So many instructions.
     Load(u64),

@@ -4,6 +4,7 @@
 pub mod breaks;
 pub mod code;
 pub mod commands;
+pub mod numbered;
 pub mod reading;
 pub mod statements;
 pub mod writing;

@@ -7,36 +7,6 @@ ghost use Rattle.command.specs.Taken.{left, Takes, Within, itself, reg_number};
 use crate::code::{Comparison, Op, Reg};
 use crate::reading::cursor::Cursor;
 
-fn op_numbered(number: u64) -> Op
-    requires { number < 10 }
-    ensures { op_number result ≡ number }
-{
-    match number {
-        0 => Op::Sum,
-        1 => Op::Difference,
-        2 => Op::Product,
-        3 => Op::Quotient,
-        4 => Op::Remainder,
-        5 => Op::And,
-        6 => Op::Or,
-        7 => Op::Either,
-        8 => Op::Left,
-        _ => Op::Right,
-    }
-}
-
-fn comparison_numbered(number: u64) -> Comparison
-    requires { number < 4 }
-    ensures { comparison_number result ≡ number }
-{
-    match number {
-        0 => Comparison::Equal,
-        1 => Comparison::Unequal,
-        2 => Comparison::Less,
-        _ => Comparison::NotLess,
-    }
-}
-
 impl Cursor<'_> {
     pub(crate) fn first(&mut self) -> Option<u64>
         ensures { Takes itself (first (left self.old)) result (left self.new) }
@@ -135,18 +105,12 @@ impl Cursor<'_> {
     pub(crate) fn op(&mut self) -> Option<Op>
         ensures { Takes op_number (byte (below 10) (left self.old)) result (left self.new) }
     {
-        let Some(number) = self.byte(10) else {
-            return None;
-        };
-        Some(op_numbered(number))
+        Op::try_from(self.first()?).ok()
     }
 
     pub(crate) fn comparison(&mut self) -> Option<Comparison>
         ensures { Takes comparison_number (byte (below 4) (left self.old)) result (left self.new) }
     {
-        let Some(number) = self.byte(4) else {
-            return None;
-        };
-        Some(comparison_numbered(number))
+        Comparison::try_from(self.first()?).ok()
     }
 }

@@ -6,7 +6,7 @@ ghost use Rattle.command.specs.Codes.{code};
 ghost use Rattle.command.specs.Written.{Puts, instr_written};
 
 use crate::code::Instr;
-use crate::writing::parts::{comparison_number, op_number, put, put_with};
+use crate::writing::parts::{put, put_with};
 use std::alloc::AllocError;
 
 pub(crate) fn put_instr(out: &mut Vec<u64>, instr: Instr) -> Result<(), AllocError>
@@ -17,7 +17,7 @@ pub(crate) fn put_instr(out: &mut Vec<u64>, instr: Instr) -> Result<(), AllocErr
         Instr::Copied(to, from) => put(out, &[1, to.number as u64, from.number as u64]),
         Instr::Reckon(op, to, by) => put(
             out,
-            &[2, op_number(op), to.number as u64, by.number as u64],
+            &[2, u64::from(op), to.number as u64, by.number as u64],
         ),
         Instr::Read(to, base, offset) => put_with(
             out,
@@ -34,7 +34,7 @@ pub(crate) fn put_instr(out: &mut Vec<u64>, instr: Instr) -> Result<(), AllocErr
             out,
             &[
                 6,
-                comparison_number(comparison),
+                u64::from(comparison),
                 first.number as u64,
                 second.number as u64,
             ],

@@ -1,10 +1,8 @@
 // The parts of a command, each written behind what was written: bytes, numbers, registers.
 ghost use Rattle.std.specs.Prelude.{◌≡◌, ◌++◌};
 ghost use Rattle.command.specs.Machine.{eight};
-ghost use Rattle.command.specs.Codes.{op_number, comparison_number};
 ghost use Rattle.command.specs.Written.{Puts};
 
-use crate::code::{Comparison, Op};
 use std::alloc::AllocError;
 
 // The bytes of a number, the highest first.
@@ -18,18 +16,6 @@ pub fn eight_bytes(number: u64) -> [u64; 8]
         rest = rest / 256;
     }
     bytes
-}
-
-pub(crate) fn op_number(op: Op) -> u64
-    ensures { result ≡ op_number op }
-{
-    op as u64
-}
-
-pub(crate) fn comparison_number(comparison: Comparison) -> u64
-    ensures { result ≡ comparison_number comparison }
-{
-    comparison as u64
 }
 
 pub(crate) fn put(out: &mut Vec<u64>, bytes: &[u64]) -> Result<(), AllocError>

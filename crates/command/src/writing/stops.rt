@@ -7,7 +7,7 @@ ghost use Rattle.command.specs.Breaks.{kind_of, which_of, test_of, break_of};
 ghost use Rattle.command.specs.Written.{Puts, test_written};
 
 use crate::breaks::{Break, Subject, Test};
-use crate::writing::parts::{comparison_number, put_number, put_with};
+use crate::writing::parts::{put_number, put_with};
 use std::alloc::AllocError;
 
 // 0 a register, 1 a word.
@@ -35,11 +35,7 @@ fn put_test(out: &mut Vec<u64>, test: Test) -> Result<(), AllocError>
     let Ok(()) = put_with(out, &[kind(test.subject)], which(test.subject)) else {
         return Err(AllocError);
     };
-    put_with(
-        out,
-        &[comparison_number(test.comparison)],
-        test.value as u64,
-    )
+    put_with(out, &[u64::from(test.comparison)], test.value as u64)
 }
 
 fn put_tests(out: &mut Vec<u64>, tests: &[Test]) -> Result<(), AllocError>
@@ -75,8 +71,7 @@ pub(crate) fn put_break(out: &mut Vec<u64>, stop: Break) -> Result<(), AllocErro
     let Ok(()) = put_number(out, stop.count as u64) else {
         return Err(AllocError);
     };
-    let tests = stop.tests;
-    let Ok(()) = put_tests(out, &tests[0..stop.count as usize]) else {
+    let Ok(()) = put_tests(out, stop.tests()) else {
         return Err(AllocError);
     };
     put_maybe_place(out, stop.changed)

@@ -1,9 +1,10 @@
-use Rattle.std.proofs.Common.{◌≡◌, ◌-◌, ◌++◌, length, take, vec_items, sym, ap, ◌∙◌, arith, length-take}
+use Rattle.std.proofs.Common.{◌≡◌, ◌++◌, List, length, take, vec_items, sym, ap, ◌∙◌, arith, length-take}
 use Rattle.std.specs.Option.{option_to_list}
 use Rattle.command.specs.Machine.{eight, flat}
 use Rattle.command.specs.Plain.{numbers, test_spelled, break_spelled}
 use Rattle.command.specs.Breaks.{test_of, break_of, tests_of}
 use Rattle.command.specs.Written.{test_written}
+use Rattle.command.specs.declared.breaks.Test.{Test}
 use Rattle.command.proofs.Writes.{wrote_then, puts_then, puts_as, each_length, flat_each}
 use Rattle.command.proofs.writing.stops.put_break.Goals as goal
 
@@ -22,13 +23,11 @@ returns c =
     let place = numbers (option_to_list b.place) in
     let changed = numbers (option_to_list b.changed) in
     let count = eight b.count in
-    -- the part of the array that is lent goes from 0
-    let z : b.count - 0 ≡ b.count = omega arith in
-    let tests = flat test_written (take (b.count - 0) b.tests) in
-    let spelled : tests ≡ flat test_spelled (tests_of b) = ap (λ k. flat test_written (take k b.tests)) z ∙ flat_each test_spelled test_of ts in
+    let tests = flat test_written ts in
+    let spelled : tests ≡ flat test_spelled (tests_of b) = flat_each test_spelled test_of ts in
     let e : (place ++ count ++ tests) ++ changed ≡ break_spelled (break_of b) =
     λ i. place ++ eight ((sym few ∙ sym (each_length test_of ts)) i) ++ spelled i ++ changed in
     puts_as r old (place ++ count ++ tests ++ changed) (break_spelled (break_of b)) new e
     (puts_then r old (place ++ count ++ tests) changed third new
-    (wrote_then old (place ++ count) tests second third (wrote_then old place count first second c.in-Ok.ensures c.in-Ok-put_number.ensures) c.in-Ok-put_tests.ensures)
+    (wrote_then old (place ++ count) tests second third (wrote_then old place count first second c.in-Ok.ensures c.in-Ok-put_number.ensures) (c.in-Ok-put_tests.ensures ∙ ap (λ (l : List Test). second ++ flat test_written l) c.tests.ensures))
     c.put_maybe_place-2.ensures)
