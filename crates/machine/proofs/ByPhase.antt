@@ -13,6 +13,7 @@ use Rattle.machine.specs.declared.phase.Phase.{Phase}
 use Rattle.machine.specs.declared.phase.Phase.TheVariants.{Idle, Ending, Beginning, GoingOn, Keeping, Placing, Telling}
 use Rattle.machine.specs.declared.acts.Told.{Told}
 use Rattle.machine.specs.declared.acts.Told.TheVariants.{Keeps, Done, No}
+use Rattle.machine.specs.declared.acts.Refusal.TheVariants.{Unexpected}
 use Rattle.machine.proofs.Rows.{three_shown}
 use Rattle.machine.proofs.Plans.{carries_at, time_kept, kept_none, kept_some}
 
@@ -33,13 +34,13 @@ module _ (n : ℕ) where
   unfolding on_next
   next_same m = rw (same_phase n 1 (omega arith) (omega arith), same_phase n 2 (omega arith) (omega arith), same_phase n 4 (omega arith) (omega arith))
 
-refuses : (m out : List ℕ) → Carries unexpected m (No 1) out m out
+refuses : (m out : List ℕ) → Carries unexpected m (No Unexpected) out m out
 unfolding written
-refuses m out = (refl, (refl, refl))
+refuses m out = (refl, ((Unexpected, refl, refl), refl))
 
 -- how far it came
 module _ (m out : List ℕ) (by : ℕ) (hit : Bool) (why : ℕ) where
-  pub came_refused : (p : Phase) → (p ≡ GoingOn → ⊥) → Carries (on_came (phase_number p) m by hit why) m (No 1) out m out
+  pub came_refused : (p : Phase) → (p ≡ GoingOn → ⊥) → Carries (on_came (phase_number p) m by hit why) m (No Unexpected) out m out
   unfolding on_came
   came_refused Idle h = refuses m out
   came_refused Ending h = refuses m out
@@ -55,7 +56,7 @@ module _ (m out : List ℕ) (by : ℕ) (hit : Bool) (why : ℕ) where
 
 -- what was looked at
 module _ (m out xs : List ℕ) where
-  pub saw_refused : (p : Phase) → (p ≡ Placing → ⊥) → (p ≡ Telling → ⊥) → Carries (on_saw (phase_number p) m xs) m (No 1) out m out
+  pub saw_refused : (p : Phase) → (p ≡ Placing → ⊥) → (p ≡ Telling → ⊥) → Carries (on_saw (phase_number p) m xs) m (No Unexpected) out m out
   unfolding on_saw
   saw_refused Idle h k = refuses m out
   saw_refused Ending h k = refuses m out
@@ -65,10 +66,10 @@ module _ (m out xs : List ℕ) where
   saw_refused Placing h k = absurd (h refl)
   saw_refused Telling h k = absurd (k refl)
 
-  pub saw_many : (p : Phase) → p ≡ Telling → 4096 < length xs → Carries (on_saw (phase_number p) m xs) m (No 1) out m out
+  pub saw_many : (p : Phase) → p ≡ Telling → 4096 < length xs → Carries (on_saw (phase_number p) m xs) m (No Unexpected) out m out
   unfolding on_saw
   saw_many p e h =
-      carries_at m (No 1) out m out (ap (λ x. on_saw (phase_number x) m xs) e ∙ pick_false (leb (length xs) 4096) _ _ (lt-leb (length xs) 4096 h)) (refuses m out)
+      carries_at m (No Unexpected) out m out (ap (λ x. on_saw (phase_number x) m xs) e ∙ pick_false (leb (length xs) 4096) _ _ (lt-leb (length xs) 4096 h)) (refuses m out)
 
   pub saw_few : (p : Phase) (r : Told) (out₁ : List ℕ) (v : ℕ) → p ≡ Telling → length xs ≤ 4096 → v ≡ 1 → ActTold (shows (flat eight xs)) r out out₁ →
       Carries (on_saw (phase_number p) m xs) m r out (set m 0 v) out₁
@@ -86,7 +87,7 @@ module _ (m out xs : List ℕ) where
 
 -- the last act is done
 module _ (m out : List ℕ) where
-  pub next_refused : (p : Phase) → (p ≡ Ending → ⊥) → (p ≡ Beginning → ⊥) → (p ≡ Keeping → ⊥) → Carries (on_next (phase_number p) m) m (No 1) out m out
+  pub next_refused : (p : Phase) → (p ≡ Ending → ⊥) → (p ≡ Beginning → ⊥) → (p ≡ Keeping → ⊥) → Carries (on_next (phase_number p) m) m (No Unexpected) out m out
   unfolding on_next
   next_refused Idle h k l = refuses m out
   next_refused Ending h k l = absurd (h refl)

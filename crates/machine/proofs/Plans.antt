@@ -11,6 +11,7 @@ use Rattle.machine.specs.Engine.{Plan, Write, puts, plan, written, cell, limit, 
 use Rattle.machine.specs.Entry.{on_row, ActTold, Carries}
 use Rattle.machine.specs.declared.acts.Told.{Told}
 use Rattle.machine.specs.declared.acts.Told.TheVariants.{Starts, Feeds, Goes, Keeps, No}
+use Rattle.machine.specs.declared.acts.Refusal.TheVariants.{Full}
 use Rattle.machine.proofs.Rows.{one_shown}
 
 -- the same plan under another name
@@ -182,7 +183,7 @@ module _ (m out out₁ : List ℕ) where
       (pick_false (ltb 65536 (get_or m 2 0 + length vs)) _ _ (le-ltb 65536 (get_or m 2 0 + length vs) (omega arith)))
       (ap (λ x. set (set m 0 x) 2 f) e ∙ ap (set (set m 0 1) 2) (sym (whole f (omega arith)) ∙ ap (λ x. x % limit) q), (ap Feeds l, o))
 
-pub gives_none : (m out vs : List ℕ) (n : ℕ) → n ≡ length vs → 65536 < get_or m 2 0 + n → Carries (begin m (give vs)) m (No 7) out m out
+pub gives_none : (m out vs : List ℕ) (n : ℕ) → n ≡ length vs → 65536 < get_or m 2 0 + n → Carries (begin m (give vs)) m (No Full) out m out
 unfolding begin written cell
 gives_none m out vs n l h =
-    carries_at {q = plan [] (refused 7)} m (No 7) out m out (pick_true (ltb 65536 (get_or m 2 0 + length vs)) _ _ (lt-ltb 65536 (get_or m 2 0 + length vs) (omega arith))) (refl, (refl, refl))
+    carries_at {q = plan [] (refused 7)} m (No Full) out m out (pick_true (ltb 65536 (get_or m 2 0 + length vs)) _ _ (lt-ltb 65536 (get_or m 2 0 + length vs) (omega arith))) (refl, ((Full, refl, refl), refl))

@@ -6,9 +6,10 @@ use Rattle.machine.specs.Engine.{planned, carried, own}
 use Rattle.machine.specs.Entry.{Carries, StepSays, step_fits, event_of}
 use Rattle.machine.specs.declared.acts.Told.{Told}
 use Rattle.machine.specs.declared.acts.Told.TheVariants.{No}
+use Rattle.machine.specs.declared.acts.Refusal.TheVariants.{Unfit}
 
 module _ (m : List ℕ) (kind a b c : ℕ) (told out : List ℕ) where
-  pub step_refused : step_fits m kind out ≡ false → StepSays m kind a b c told out (step_fits m kind out) (No 0) m out
+  pub step_refused : step_fits m kind out ≡ false → StepSays m kind a b c told out (step_fits m kind out) (No Unfit) m out
   unfolding StepSays
   step_refused e = rw e (refl, refl, refl)
 

@@ -1,6 +1,8 @@
-// What a step of the debugger tells the world outside to do.
+// What a step of the debugger tells the world outside to do, or why it refuses.
+ghost use Rattle.std.specs.Prelude.{◌≡◌};
+ghost use Rattle.machine.specs.Entry.{refusal_number};
 
-#[derive(Clone, Copy)]
+#[derive(Clone, Copy, Debug, PartialEq, Eq)]
 pub enum Told {
     // So many instructions, spelled in the row.
     Starts(u64),
@@ -10,28 +12,46 @@ pub enum Told {
     Goes(u64),
     Keeps(u64),
     TakesUp(u64),
-    // 0 registers, 1 words, 2 what went out, 3 where it is.
-    Looks(u64),
+    Looks(Look),
     // So many bytes.
     Shows(u64),
     Done,
-    No(u64),
+    No(Refusal),
 }
 
 // What it is to look at.
-pub const REGISTERS: u64 = 0;
+#[derive(Clone, Copy, Debug, PartialEq, Eq)]
+pub enum Look {
+    Registers,
+    // As many from a place on as the row says.
+    Words,
+    Outs,
+    // Where it is.
+    Place,
+}
 
-pub const WORDS: u64 = 1;
+// Why a step is refused; nothing is changed then.
+#[derive(Clone, Copy, Debug, PartialEq, Eq)]
+pub enum Refusal {
+    // Nothing can be done with what was lent.
+    Unfit,
+    // It is no command, or nothing waits for it.
+    Unexpected,
+    // A command that is not known yet.
+    Unknown,
+    // No more can come in.
+    Full,
+}
 
-pub const OUTS: u64 = 2;
+impl From<Refusal> for u64 {
+    ghost from_gives = { λ why n. n ≡ refusal_number why };
 
-pub const PLACE: u64 = 3;
-
-// Why it is refused: nothing can be done with what was lent; that was not expected; it is not known yet; no more can come in.
-pub const UNFIT: u64 = 0;
-
-pub const UNEXPECTED: u64 = 1;
-
-pub const UNKNOWN: u64 = 2;
-
-pub const FULL: u64 = 7;
+    fn from(why: Refusal) -> u64 {
+        match why {
+            Refusal::Unfit => 0,
+            Refusal::Unexpected => 1,
+            Refusal::Unknown => 2,
+            Refusal::Full => 7,
+        }
+    }
+}

@@ -7,7 +7,7 @@ ghost use Rattle.command.specs.Told.{meant, told as told_by, program_in, numbers
 ghost use Rattle.machine.specs.Engine.{begin as beginning, begin_read};
 ghost use Rattle.machine.specs.Entry.{Carries};
 
-use crate::acts::{FULL, OUTS, PLACE, REGISTERS, Told, UNKNOWN, WORDS};
+use crate::acts::{Look, Refusal, Told};
 use crate::cells::{CURSOR, FED, PHASE, STEPS_LEFT, TIME};
 use crate::going::set_off;
 use crate::phase::Phase;
@@ -46,7 +46,7 @@ fn give(memory: &mut [u64], count: u64, text: &[u64], out: &mut [u64]) -> Told
 {
     let fed = memory[FED].saturating_add(count);
     if fed > MOST_FED {
-        return Told::No(FULL);
+        return Told::No(Refusal::Full);
     }
     memory[PHASE] = Phase::Ending.number();
     memory[FED] = fed;
@@ -75,23 +75,23 @@ fn obey(memory: &mut [u64], order: Order, out: &mut [u64]) -> Told
         }
         Order::Where => {
             memory[PHASE] = Phase::Placing.number();
-            Told::Looks(PLACE)
+            Told::Looks(Look::Place)
         }
         Order::Registers => {
             memory[PHASE] = Phase::Telling.number();
-            Told::Looks(REGISTERS)
+            Told::Looks(Look::Registers)
         }
         Order::Words { from, count } => {
             memory[PHASE] = Phase::Telling.number();
             put_front(out, &[from, words_there(from, count)]);
-            Told::Looks(WORDS)
+            Told::Looks(Look::Words)
         }
         Order::Outs { from, count } => {
             memory[PHASE] = Phase::Telling.number();
             put_front(out, &[from, count]);
-            Told::Looks(OUTS)
+            Told::Looks(Look::Outs)
         }
-        _ => Told::No(UNKNOWN),
+        _ => Told::No(Refusal::Unknown),
     }
 }
 
@@ -118,6 +118,6 @@ pub fn hear(memory: &mut [u64], text: &[u64], out: &mut [u64]) -> Told
 {
     match read(text) {
         Ok(command) => begin(memory, command, text, out),
-        Err(why) => Told::No(why),
+        Err(_) => Told::No(Refusal::Unexpected),
     }
 }

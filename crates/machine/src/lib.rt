@@ -11,6 +11,6 @@ mod row;
 pub mod statements;
 mod stepping;
 
-pub use acts::Told;
+pub use acts::{Look, Refusal, Told};
 pub use cells::{CELLS, ROW};
 pub use stepping::step;

@@ -5,7 +5,7 @@ ghost use Rattle.machine.specs.Entry.{Carries, StepSays, step_fits};
 ghost use Rattle.machine.specs.declared.acts.Told.TheVariants.{Done, Keeps};
 ghost use Rattle.machine.specs.Phases.{phase_number, event_meant};
 
-use crate::acts::{Told, UNEXPECTED, UNFIT};
+use crate::acts::{Refusal, Told};
 use crate::beginning::hear;
 use crate::cells::{CELLS, CURSOR, PHASE, ROW, TIME};
 use crate::event::{Event, event_from};
@@ -25,7 +25,7 @@ fn on_came(memory: &mut [u64], phase: Phase, by: u64, hit: bool, why: u64, out: 
     ensures { Carries (on_came (phase_number phase) memory.old by hit why) memory.old result out.old memory.new out.new }
 {
     let Phase::GoingOn = phase else {
-        return Told::No(UNEXPECTED);
+        return Told::No(Refusal::Unexpected);
     };
     come(memory, by, hit, why, out)
 }
@@ -53,12 +53,12 @@ fn on_saw(memory: &mut [u64], phase: Phase, seen: &[u64], out: &mut [u64]) -> To
         }
         Phase::Telling => {
             if seen.len() > MOST_SHOWN {
-                return Told::No(UNEXPECTED);
+                return Told::No(Refusal::Unexpected);
             }
             memory[PHASE] = Phase::Ending.number();
             show(out, seen)
         }
-        _ => Told::No(UNEXPECTED),
+        _ => Told::No(Refusal::Unexpected),
     }
 }
 
@@ -96,7 +96,7 @@ fn on_next(memory: &mut [u64], phase: Phase, out: &mut [u64]) -> Told
             Some(slot) => keep(memory, slot),
             None => set_off(memory, out),
         },
-        _ => Told::No(UNEXPECTED),
+        _ => Told::No(Refusal::Unexpected),
     }
 }
 
@@ -128,10 +128,10 @@ pub fn step(
     ensures { StepSays memory.old kind a b c told.now out.old (step_fits memory.old kind out.old) result memory.new out.new }
 {
     if memory.len() != CELLS || out.len() < ROW {
-        return Told::No(UNFIT);
+        return Told::No(Refusal::Unfit);
     }
     let Some(event) = event_from(kind, a, b, c, told) else {
-        return Told::No(UNFIT);
+        return Told::No(Refusal::Unfit);
     };
     react(memory, event, out)
 }
