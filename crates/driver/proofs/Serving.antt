@@ -1,5 +1,5 @@
 -- Each act that is carried to the processor, from what its method promises.
-use Rattle.std.proofs.Common.{◌≡◌, ℕ, ◌+◌, ◌<◌, ◌≤◌, false, List, length, get_or, take, drop, Ok, Err, Result, sym, refl, ap, ◌∙◌, subst, arith}
+use Rattle.std.proofs.Common.{◌≡◌, ℕ, ◌+◌, ◌<◌, false, List, length, get_or, take, drop, Ok, Err, Result, sym, ap, ◌∙◌, subst, arith}
 use Rattle.command.specs.Machine.{every}
 use Rattle.command.specs.Plain.{a_word}
 use Rattle.command.specs.Reader.{Got, nothing, got, so_many, instr, break}
@@ -14,13 +14,18 @@ use Rattle.target.specs.declared.answers.Fault.{Fault}
 use Rattle.target.specs.declared.answers.Fault.TheVariants.{TooLong, TooManyBreaks, NoSuchSlot, EmptySlot, TooManyNumbers, NoMemory as Wants}
 use Rattle.target.proofs.Doing.{refuses_goes, refuses_words, refuses_outs}
 use Rattle.machine.specs.Fair.{FairAct}
+use Rattle.machine.specs.declared.acts.Look.TheVariants.{Registers, Words, Outs, Place}
 use Rattle.machine.specs.declared.acts.Told.{Told}
 use Rattle.machine.specs.declared.acts.Told.TheVariants.{Starts, Feeds, Goes, Keeps, TakesUp, Looks}
-use Rattle.driver.specs.Carried.{heard_by, heard_going, SoundHeard, Served, Serves}
+use Rattle.driver.specs.Carried.{Served, Serves}
+use Rattle.driver.specs.declared.event.Event.{Event}
 use Rattle.driver.specs.declared.event.Event.TheVariants.{Came, Saw, Next}
-use Rattle.driver.specs.declared.event.Heard.{Heard}
-use Rattle.driver.specs.declared.event.Heard.TheVariants.{Over, Tells, NoMemory}
-use Rattle.std.proofs.lemmas.Bool.{false≢true, ne_eqb}
+use Rattle.driver.specs.declared.event.Ending.{Ending}
+use Rattle.driver.specs.declared.event.Ending.TheVariants as ending
+use Rattle.driver.specs.declared.refusal.Refusal.TheVariants.{Fault as AFault}
+use Rattle.std.specs.Result.{IsErrAnd}
+use Rattle.std.proofs.lemmas.Bool.{false≢true}
+use Rattle.std.proofs.lemmas.Result.{err_from_is_err_and}
 use Rattle.driver.proofs.Shapes.{Shape, shape, program_back, breaks_back, breaks_count}
 
 got_not : {A : Type 0} {g : Got A} {a : A} {u : List ℕ} → g ≡ got a u → g ≡ nothing → ⊥
@@ -29,27 +34,26 @@ got_not e n = let z : ◌≡◌ {A = ℕ} 0 1 = cc in absurd (omega (arith, z))
 got_same : {A : Type 0} {g : Got A} {a b : A} {u v : List ℕ} → g ≡ got a u → g ≡ got b v → a ≡ b
 got_same e h = cc
 
-sound_as : {h h₁ : Heard} → h₁ ≡ h → ((n : ℕ) → SoundHeard h n) → (n : ℕ) → SoundHeard h₁ n
-sound_as e s n = subst (λ x. SoundHeard x n) (sym e) (s n)
+abbrev Heard : Type 0
+Heard = Result Event Ending
 
-by_sound : {A : Type 0} (r : Result A Fault) (n : ℕ) → SoundHeard (heard_by r) n
-by_sound (Ok x) n = tt
-by_sound (Err e) n = tt
+-- an act that cannot be
+abbrev pub Fell : Heard
+Fell = Err (ending.Refused AFault)
 
-going_sound : (r : Result Answer Fault) (n : ℕ) → SoundHeard (heard_going r) n
-going_sound (Ok c) n = tt
-going_sound (Err TooLong) n = tt
-going_sound (Err TooManyBreaks) n = tt
-going_sound (Err NoSuchSlot) n = tt
-going_sound (Err EmptySlot) n = tt
-going_sound (Err TooManyNumbers) n = tt
-going_sound (Err Wants) n = tt
+-- what the processor's answer makes
+abbrev pub heard_by : {A : Type 0} → Result A Fault → Heard
+heard_by (Ok x) = Ok Next
+heard_by (Err e) = Fell
 
-pub heard_sound : {A : Type 0} (r : Result A Fault) {h : Heard} → h ≡ heard_by r → (n : ℕ) → SoundHeard h n
-heard_sound r e = sound_as e (by_sound r)
-
-pub came_sound : (r : Result Answer Fault) {h : Heard} → h ≡ heard_going r → (n : ℕ) → SoundHeard h n
-came_sound r e = sound_as e (going_sound r)
+abbrev pub heard_going : Result Answer Fault → Heard
+heard_going (Ok c) = Ok (Came c)
+heard_going (Err Wants) = Err ending.NoMemory
+heard_going (Err TooLong) = Fell
+heard_going (Err TooManyBreaks) = Fell
+heard_going (Err NoSuchSlot) = Fell
+heard_going (Err EmptySlot) = Fell
+heard_going (Err TooManyNumbers) = Fell
 
 module _ (row : List ℕ) (before after : Target → Type 0) (room : ℕ) (seen : List ℕ) where
   -- an act that is told so is this one
@@ -68,8 +72,12 @@ module _ (row : List ℕ) (before after : Target → Type 0) (room : ℕ) (seen 
   unfolding Serves
   never told h none t l a row₀ told-so f fair = absurd (none t l a (shape a told row₀ row told-so) f fair)
 
-  pub as_heard : (told : Told) {h h₁ : Heard} → h₁ ≡ h → Serves told row before h room after seen → Serves told row before h₁ room after seen
-  as_heard told e s = subst (λ x. Serves told row before x room after seen) (sym e) s
+  -- what the exit of a `?` answers, where the error is passed on and where it is a fault
+  pub passed_on : (told : Told) (h : Heard) {e₀ : Ending} → e₀ ≡ ending.Refused AFault → IsErrAnd h (λ e. e ≡ e₀) → Serves told row before Fell room after seen → Serves told row before h room after seen
+  passed_on told h z e s = let p = err_from_is_err_and h e in subst (λ x. Serves told row before x room after seen) (sym (p.1 ∙ ap Err (p.2 ∙ z))) s
+
+  pub at_exit : (told : Told) (h : Heard) → IsErrAnd h (λ e. e ≡ ending.Refused AFault) → Serves told row before Fell room after seen → Serves told row before h room after seen
+  at_exit told h e s = let p = err_from_is_err_and h e in subst (λ x. Serves told row before x room after seen) (sym (p.1 ∙ ap Err p.2)) s
 
   -- a program
   module _ (n : ℕ) where
@@ -88,8 +96,8 @@ module _ (row : List ℕ) (before after : Target → Type 0) (room : ℕ) (seen 
       starts_is t l a (is, e, len, (o, r)) f fair = let p = subst (λ x. FairAct x (length t.fed) f) e fair in e ∙ ap starts (got_same (program_back is k o row p.1 (len ∙ sym z) r) g)
 
       pub started : {A : Type 0} (r : Result A Fault) → Begins xs before after room r → Serves (Starts n) row before (heard_by r) room after seen
-      started (Ok x) h = served (Starts n) (Tells Next) (starts (codes xs)) starts_is h.3
-      started (Err TooLong) h = served (Starts n) (Over 1001) (starts (codes xs)) starts_is h.1
+      started (Ok x) h = served (Starts n) (Ok Next) (starts (codes xs)) starts_is h.3
+      started (Err TooLong) h = served (Starts n) Fell (starts (codes xs)) starts_is h.1
       started (Err TooManyBreaks) h = absurd h
       started (Err NoSuchSlot) h = absurd h
       started (Err EmptySlot) h = absurd h
@@ -114,43 +122,44 @@ module _ (row : List ℕ) (before after : Target → Type 0) (room : ℕ) (seen 
         absurd (omega (arith, p.2, p.3, g, len, (full t l).0)))
 
     pub fed : (xs : List ℕ) → length xs ≡ n → take (length xs) row ≡ xs → {A : Type 0} (r : Result A Fault) → Fed xs before after r → Serves (Feeds n) row before (heard_by r) room after seen
-    fed xs z g (Ok x) h = served (Feeds n) (Tells Next) (feeds xs) (λ t l a (vs, e, len, r) f fair. e ∙ ap feeds (sym r ∙ (ap (λ k. take k row) (sym z) ∙ g))) h
+    fed xs z g (Ok x) h = served (Feeds n) (Ok Next) (feeds xs) (λ t l a (vs, e, len, r) f fair. e ∙ ap feeds (sym r ∙ (ap (λ k. take k row) (sym z) ∙ g))) h
     fed xs z g (Err TooLong) h = absurd h
     fed xs z g (Err TooManyBreaks) h = absurd h
     fed xs z g (Err NoSuchSlot) h = absurd h
     fed xs z g (Err EmptySlot) h = absurd h
     fed xs z g (Err TooManyNumbers) h = absurd h
-    fed xs z g (Err Wants) h = not_fed (Over 1001) xs z h
+    fed xs z g (Err Wants) h = not_fed Fell xs z h
 
     -- going on
-    pub goes_few : 64 < get_or row 0 0 → ((t : Target) → before t → after t) → Serves (Goes n) row before (Over 1001) room after seen
+    pub goes_few : 64 < get_or row 0 0 → ((t : Target) → before t → after t) → Serves (Goes n) row before Fell room after seen
     unfolding Serves
     goes_few many same t l a row₀ told-so f fair =
         let s = shape a (Goes n) row₀ row told-so in
         let long : 64 < length s.0 = omega (arith, many, breaks_count s.0 s.2.0 row s.2.1) in
-        subst (λ x. Served x t (Over 1001) room after seen) (sym s.1) (refuses_goes before after n s.0 long same t l)
+        subst (λ x. Served x t Fell room after seen) (sym s.1) (refuses_goes before after n s.0 long same t l)
 
-    pub goes_read : (h : Heard) (text : List ℕ) → text ≡ drop 1 row → so_many break (get_or row 0 0) text ≡ nothing → Serves (Goes n) row before h room after seen
-    goes_read h text z none =
+    pub goes_read : (h : Heard) (text : List ℕ) → text ≡ drop 1 row → (k : ℕ) → k ≡ get_or row 0 0 → so_many break k text ≡ nothing → Serves (Goes n) row before h room after seen
+    goes_read h text z k q none =
         never (Goes n) h
-        (λ t l a (bs, e, (o, r)) f fair. let p = subst (λ x. FairAct x (length t.fed) f) e fair in got_not (ap (so_many break (get_or row 0 0)) z ∙ breaks_back bs o row p.1 r) none)
+        (λ t l a (bs, e, (o, r)) f fair. let p = subst (λ x. FairAct x (length t.fed) f) e fair in got_not (ap (so_many break (get_or row 0 0)) z ∙ breaks_back bs o row p.1 r) (ap (λ j. so_many break j text) (sym q) ∙ none))
 
-    module _ (text : List ℕ) (z : text ≡ drop 1 row) (bs : List Break) (u : List ℕ) (g : so_many break (get_or row 0 0) text ≡ got (breaks_of bs) u) where
+    module _ (text : List ℕ) (z : text ≡ drop 1 row) (k : ℕ) (q : k ≡ get_or row 0 0) (bs : List Break) (u : List ℕ) (g : so_many break k text ≡ got (breaks_of bs) u) where
       goes_is : Is (Goes n) (goes n (breaks_of bs))
       goes_is t l a (cs, e, (o, r)) f fair =
-          let p = subst (λ x. FairAct x (length t.fed) f) e fair in e ∙ ap (goes n) (got_same (ap (so_many break (get_or row 0 0)) z ∙ breaks_back cs o row p.1 r) g)
+          let p = subst (λ x. FairAct x (length t.fed) f) e fair in
+          e ∙ ap (goes n) (got_same (ap (so_many break (get_or row 0 0)) z ∙ breaks_back cs o row p.1 r) (ap (λ j. so_many break j text) (sym q) ∙ g))
 
       -- a stride is no longer than this
-      no_memory : ((t : Target) → before t → room < n) → Serves (Goes n) row before NoMemory room after seen
+      no_memory : ((t : Target) → before t → room < n) → Serves (Goes n) row before (Err ending.NoMemory) room after seen
       unfolding Serves
       no_memory full t l a row₀ told-so f fair =
           let s = shape a (Goes n) row₀ row told-so in
           let p = subst (λ x. FairAct x (length t.fed) f) s.1 fair in omega (arith, p.0, full t l)
 
       pub went : (room₀ : ℕ) (r : Result Answer Fault) → Gone n bs room₀ before after r → Wanting n room before r → Serves (Goes n) row before (heard_going r) room after seen
-      went room₀ (Ok c) h wants = served (Goes n) (Tells (Came c)) (goes n (breaks_of bs)) goes_is h.1
+      went room₀ (Ok c) h wants = served (Goes n) (Ok (Came c)) (goes n (breaks_of bs)) goes_is h.1
       went room₀ (Err TooLong) h wants = absurd h
-      went room₀ (Err TooManyBreaks) h wants = served (Goes n) (Over 1001) (goes n (breaks_of bs)) goes_is h.1
+      went room₀ (Err TooManyBreaks) h wants = served (Goes n) Fell (goes n (breaks_of bs)) goes_is h.1
       went room₀ (Err NoSuchSlot) h wants = absurd h
       went room₀ (Err EmptySlot) h wants = absurd h
       went room₀ (Err TooManyNumbers) h wants = absurd h
@@ -159,52 +168,50 @@ module _ (row : List ℕ) (before after : Target → Type 0) (room : ℕ) (seen 
   -- slots
   module _ (k : ℕ) {A : Type 0} where
     pub kept : (r : Result A Fault) → Kept k before after r → Serves (Keeps k) row before (heard_by r) room after seen
-    kept (Ok x) h = served (Keeps k) (Tells Next) (keeps k) (λ t l a s f fair. s) h.1
+    kept (Ok x) h = served (Keeps k) (Ok Next) (keeps k) (λ t l a s f fair. s) h.1
     kept (Err TooLong) h = absurd h
     kept (Err TooManyBreaks) h = absurd h
-    kept (Err NoSuchSlot) h = served (Keeps k) (Over 1001) (keeps k) (λ t l a s f fair. s) h.1
+    kept (Err NoSuchSlot) h = served (Keeps k) Fell (keeps k) (λ t l a s f fair. s) h.1
     kept (Err EmptySlot) h = absurd h
     kept (Err TooManyNumbers) h = absurd h
     kept (Err Wants) h = absurd h
 
     pub took : (r : Result A Fault) → Took k before after r → Serves (TakesUp k) row before (heard_by r) room after seen
-    took (Ok x) h = served (TakesUp k) (Tells Next) (takes_up k) (λ t l a s f fair. s) h.1
+    took (Ok x) h = served (TakesUp k) (Ok Next) (takes_up k) (λ t l a s f fair. s) h.1
     took (Err TooLong) h = absurd h
     took (Err TooManyBreaks) h = absurd h
-    took (Err NoSuchSlot) h = served (TakesUp k) (Over 1001) (takes_up k) (λ t l a s f fair. s) h.1
-    took (Err EmptySlot) h = served (TakesUp k) (Over 1001) (takes_up k) (λ t l a s f fair. s) h.1
+    took (Err NoSuchSlot) h = served (TakesUp k) Fell (takes_up k) (λ t l a s f fair. s) h.1
+    took (Err EmptySlot) h = served (TakesUp k) Fell (takes_up k) (λ t l a s f fair. s) h.1
     took (Err TooManyNumbers) h = absurd h
     took (Err Wants) h = absurd h
 
   -- looking
-  pub saw_regs : (vs : List ℕ) → take 16 seen ≡ vs → Does looks_regs (saw vs) 0 before after → Serves (Looks 0) row before (Tells (Saw 16)) room after seen
+  pub saw_regs : (vs : List ℕ) → take 16 seen ≡ vs → Does looks_regs (saw vs) 0 before after → Serves (Looks Registers) row before (Ok (Saw 16)) room after seen
   saw_regs vs e d =
-      served (Looks 0) (Tells (Saw 16)) looks_regs (λ t l a s f fair. s) (subst (λ xs. Does looks_regs (saw xs) 0 before after) (sym e) d)
+      served (Looks Registers) (Ok (Saw 16)) looks_regs (λ t l a s f fair. s) (subst (λ xs. Does looks_regs (saw xs) 0 before after) (sym e) d)
 
   pub saw_words : (n k : ℕ) (vs : List ℕ) → n ≡ get_or row 1 0 → take k seen ≡ vs → Does (looks_words (get_or row 0 0) n) (saw vs) 0 before after →
-      Serves (Looks 1) row before (Tells (Saw k)) room after seen
+      Serves (Looks Words) row before (Ok (Saw k)) room after seen
   saw_words n k vs c e d =
-      served (Looks 1) (Tells (Saw k)) (looks_words (get_or row 0 0) n) (λ t l a s f fair. s ∙ ap (looks_words (get_or row 0 0)) (sym c))
+      served (Looks Words) (Ok (Saw k)) (looks_words (get_or row 0 0) n) (λ t l a s f fair. s ∙ ap (looks_words (get_or row 0 0)) (sym c))
       (subst (λ xs. Does (looks_words (get_or row 0 0) n) (saw xs) 0 before after) (sym e) d)
 
-  pub words_few : 4096 < get_or row 1 0 → ((t : Target) → before t → after t) → Serves (Looks 1) row before (Over 1001) room after seen
+  pub words_few : 4096 < get_or row 1 0 → ((t : Target) → before t → after t) → Serves (Looks Words) row before Fell room after seen
   words_few many same =
-      served (Looks 1) (Over 1001) (looks_words (get_or row 0 0) (get_or row 1 0)) (λ t l a s f fair. s)
+      served (Looks Words) Fell (looks_words (get_or row 0 0) (get_or row 1 0)) (λ t l a s f fair. s)
       (λ t l. let r = refuses_words before (get_or row 0 0) (get_or row 1 0) many t l in (same t l, r.1))
 
   pub saw_outs : (n k : ℕ) (vs : List ℕ) → n ≡ get_or row 1 0 → take k seen ≡ vs → Does (looks_outs (get_or row 0 0) n) (saw vs) 0 before after →
-      Serves (Looks 2) row before (Tells (Saw k)) room after seen
+      Serves (Looks Outs) row before (Ok (Saw k)) room after seen
   saw_outs n k vs c e d =
-      served (Looks 2) (Tells (Saw k)) (looks_outs (get_or row 0 0) n) (λ t l a s f fair. s ∙ ap (looks_outs (get_or row 0 0)) (sym c))
+      served (Looks Outs) (Ok (Saw k)) (looks_outs (get_or row 0 0) n) (λ t l a s f fair. s ∙ ap (looks_outs (get_or row 0 0)) (sym c))
       (subst (λ xs. Does (looks_outs (get_or row 0 0) n) (saw xs) 0 before after) (sym e) d)
 
-  pub outs_few : 4096 < get_or row 1 0 → ((t : Target) → before t → after t) → Serves (Looks 2) row before (Over 1001) room after seen
+  pub outs_few : 4096 < get_or row 1 0 → ((t : Target) → before t → after t) → Serves (Looks Outs) row before Fell room after seen
   outs_few many same =
-      served (Looks 2) (Over 1001) (looks_outs (get_or row 0 0) (get_or row 1 0)) (λ t l a s f fair. s)
+      served (Looks Outs) Fell (looks_outs (get_or row 0 0) (get_or row 1 0)) (λ t l a s f fair. s)
       (λ t l. let r = refuses_outs before (get_or row 0 0) (get_or row 1 0) many t l in (same t l, r.1))
 
-  pub saw_place : (k : ℕ) (vs : List ℕ) → 3 ≤ k → take 2 seen ≡ vs → Does looks_where (saw vs) 0 before after → Serves (Looks k) row before (Tells (Saw 2)) room after seen
-  saw_place k vs h e d =
-      served (Looks k) (Tells (Saw 2)) looks_where
-      (λ t l a s f fair. s ∙ rw (ne_eqb k 0 (λ z. omega arith), ne_eqb k 1 (λ z. omega arith), ne_eqb k 2 (λ z. omega arith)) refl)
-      (subst (λ xs. Does looks_where (saw xs) 0 before after) (sym e) d)
+  pub saw_place : (vs : List ℕ) → take 2 seen ≡ vs → Does looks_where (saw vs) 0 before after → Serves (Looks Place) row before (Ok (Saw 2)) room after seen
+  saw_place vs e d =
+      served (Looks Place) (Ok (Saw 2)) looks_where (λ t l a s f fair. s) (subst (λ xs. Does looks_where (saw xs) 0 before after) (sym e) d)

@@ -1,3 +1,4 @@
+pub mod Refusals
 pub mod Carried
 pub mod Rows
 pub mod Screens

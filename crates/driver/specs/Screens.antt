@@ -7,9 +7,9 @@ showed true text = text ∷ []
 showed false text = []
 
 -- a text is added, or there was one
-abbrev pub ShowsIt : Bool → (before : List (List ℕ)) → List ℕ → (after : List (List ℕ)) → Type 0
-ShowsIt true before text after = (before ≡ []) × (after ≡ text ∷ [])
-ShowsIt false before text after = (0 < length before) × (after ≡ before)
+abbrev pub ShowsIt : Option (Unit {0}) → (before : List (List ℕ)) → List ℕ → (after : List (List ℕ)) → Type 0
+ShowsIt (Some x) before text after = (before ≡ []) × (after ≡ text ∷ [])
+ShowsIt None before text after = (0 < length before) × (after ≡ before)
 
 -- what is seen on it
 abbrev pub seen_on : Option (Bor (List ℕ)) → List (List ℕ)

@@ -1,21 +1,18 @@
 // The debugger on a processor: what is said to it, and what it answers.
-ghost use Rattle.std.specs.Prelude.{◌≡◌, ℕ, suc, ◌≤◌, Bool, [], length, IfOk, vec_len};
+ghost use Rattle.std.specs.Prelude.{◌≡◌, ℕ, suc, Bool, [], length, IfOk, vec_len};
 ghost use Rattle.command.specs.Plain.{Command, Plain, core};
 ghost use Rattle.target.specs.Run.{Target, fresh_target};
 ghost use Rattle.machine.specs.Promise.{first_plain};
 ghost use Rattle.driver.specs.Screens.{showed, seen_on};
-ghost use Rattle.driver.specs.Says.{Went, Stands, Answered};
+ghost use Rattle.driver.specs.Says.{answer_of, Went, Stands, Answered};
 
-use crate::acts::carry;
-use crate::event::{Event, Heard, tell};
-use crate::outcome::Outcome;
+use crate::acts::{MOST, carry};
+use crate::event::{Ending, Event, tell};
+use crate::refusal::{Refusal, SayError};
 use crate::screen::Screen;
 use machine::{CELLS, ROW};
 use std::alloc::{AllocError, Global};
 use target::processor::Processor;
-
-// The end of a run that shows more than one text, or never ends: no command does.
-const NEVER: u64 = 1000;
 
 #[derive(Drop)]
 pub struct Debugger<P> {
@@ -28,6 +25,29 @@ pub struct Debugger<P> {
     ghost wide: { vec_len row ≡ 65536 },
 }
 
+// What a command that made so many steps is answered.
+fn answer(ending: Ending, steps: u64) -> Result<u64, SayError>
+    ensures { result ≡ answer_of ending steps }
+{
+    match ending {
+        Ending::Done => Ok(steps),
+        Ending::Refused(why) => Err(SayError::Refused { why, steps }),
+        Ending::ShownTwice => Err(SayError::Refused {
+            why: Refusal::Never,
+            steps,
+        }),
+        Ending::NoMemory => Err(SayError::NoMemory),
+    }
+}
+
+// A row, by its length.
+fn whole(row: &[u64]) -> &[u64; ROW]
+    requires { length row.now ≡ 65536 }
+    ensures { result.now ≡ row.now }
+{
+    row.as_array().unwrap()
+}
+
 // Turn after turn: an event, a step, and its act.
 fn carry_out<P: Processor>(
     p: &mut P,
@@ -35,27 +55,28 @@ fn carry_out<P: Processor>(
     screen: &mut Screen,
     text: &[u64],
     row: &mut [u64],
-) -> Outcome
+) -> Result<u64, SayError>
     requires cells { length memory.old ≡ 32000 }
-    requires row { length row.old ≡ 65536 }
+    requires wide { length row.old ≡ 65536 }
     ensures { Went (P.like p.old) memory.old (showed screen.old.shown screen.old.text.items) text.now result (P.room p.new) (P.like p.new) memory.new (showed screen.new.shown screen.new.text.items) }
 {
-    let mut seen = [0; 4096];
+    let mut seen = [0; MOST];
     let mut event = Event::Said;
     let mut steps: u64 = 0;
-    for i in 0..u64::MAX {
+    for turn in 0..u64::MAX {
         let told = tell(memory, event, text, &seen, row);
-        match carry(p, screen, told, row, &mut seen) {
-            Heard::Over(end) => return Outcome::Over { end, steps },
-            Heard::NoMemory => return Outcome::NoMemory,
-            Heard::ShownTwice => return Outcome::Over { end: NEVER, steps },
-            Heard::Tells(next) => {
+        match carry(p, screen, told, whole(row), &mut seen) {
+            Ok(next) => {
                 steps = steps.wrapping_add(next.steps());
                 event = next;
             }
+            Err(ending) => return answer(ending, steps),
         }
     }
-    Outcome::Over { end: NEVER, steps }
+    Err(SayError::Refused {
+        why: Refusal::Never,
+        steps,
+    })
 }
 
 impl<P: Processor + Drop> Debugger<P> {
@@ -73,9 +94,9 @@ impl<P: Processor + Drop> Debugger<P> {
         })
     }
 
-    // Something is said, in bytes. From a session that stands for a plain debugger, the answer is the plain debugger's, within the steps granted,
+    // Something is said, in bytes, and the steps are answered that the processor made. From a session that stands for a plain debugger, the answer is the plain debugger's, within the steps granted,
     // and the session stands for that one.
-    pub fn say(&mut self, text: &[u64]) -> Outcome
+    pub fn say(&mut self, text: &[u64]) -> Result<u64, SayError>
         ensures went { Went (P.like self.old.processor) self.old.memory.items [] text.now result (P.room self.new.processor) (P.like self.new.processor) self.new.memory.items (showed self.new.screen.shown self.new.screen.text.items) }
         ensures answered { (left : ℕ) (known : Command → Bool) (w : Plain) → Stands (suc left) known (P.like self.old.processor) self.old.memory.items w → Answered left known w text.now result (P.room self.new.processor) (P.like self.new.processor) self.new.memory.items (showed self.new.screen.shown self.new.screen.text.items) }
     {

@@ -1,14 +1,17 @@
 // What the debugger is told after an act, and the step that it takes.
-ghost use Rattle.std.specs.Prelude.{◌≡◌, ◌≤◌, length, ◌==◌};
+ghost use Rattle.std.specs.Prelude.{◌≡◌, ◌≤◌, length};
 ghost use Rattle.target.specs.Whys.{why_number};
 ghost use Rattle.machine.specs.Engine.{own};
 ghost use Rattle.machine.specs.Entry.{ActTold};
 ghost use Rattle.driver.specs.Carried.{meant, steps_of, Sound};
+ghost use Rattle.driver.specs.declared.event.Ending.TheVariants.{Refused};
+ghost use Rattle.driver.specs.declared.refusal.Refusal.TheVariants.{Fault as AFault};
 
+use crate::refusal::Refusal;
 use machine::{Told, step};
-use target::answers::{Came, Why};
+use target::answers::{Came, Fault, Why};
 
-#[derive(Clone, Copy)]
+#[derive(Clone, Copy, Debug, PartialEq, Eq)]
 pub enum Event {
     // The command.
     Said,
@@ -20,16 +23,27 @@ pub enum Event {
     Next,
 }
 
-// What comes of an act.
-#[derive(Clone, Copy)]
-pub enum Heard {
-    // The command is over: done with 0, or refused with a number.
-    Over(u64),
-    Tells(Event),
+// Why no event comes of an act.
+#[derive(Clone, Copy, Debug, PartialEq, Eq)]
+pub enum Ending {
+    // The command is done.
+    Done,
+    Refused(Refusal),
     // The processor has no memory for what may go out.
     NoMemory,
     // Something was shown before in this command.
     ShownTwice,
+}
+
+// An act cannot be.
+pub const FAULT: Ending = Ending::Refused(Refusal::Fault);
+
+impl From<Fault> for Ending {
+    ghost from_gives = { λ _ ending. ending ≡ Refused AFault };
+
+    fn from(_fault: Fault) -> Ending {
+        FAULT
+    }
 }
 
 impl Event {
@@ -44,29 +58,17 @@ impl Event {
     }
 }
 
+// 0 where it goes on.
 pub fn number_of(why: Option<Why>) -> u64
     ensures { result ≡ why_number why }
 {
-    match why {
-        None => 0,
-        Some(Why::Halted) => 1,
-        Some(Why::Waits) => 2,
-        Some(Why::NoInstr) => 11,
-        Some(Why::NoWord) => 12,
-        Some(Why::ByZero) => 13,
-    }
-}
-
-fn flag(hit: bool) -> u64
-    ensures { (result == 1) ≡ hit }
-{
-    hit as u64
+    why.map_or(0, u64::from)
 }
 
 // The debugger is told an event: the command is `text`, and `seen` begins with what was looked at.
 pub fn tell(memory: &mut [u64], event: Event, text: &[u64], seen: &[u64], row: &mut [u64]) -> Told
     requires cells { length memory.old ≡ 32000 }
-    requires row { 65536 ≤ length row.old }
+    requires wide { 65536 ≤ length row.old }
     requires sound { Sound event (length seen.now) }
     ensures memory { memory.new ≡ (own.step memory.old (meant event text.now seen.now)).memory }
     ensures told { ActTold (own.step memory.old (meant event text.now seen.now)).act result row.old row.new }
@@ -77,7 +79,7 @@ pub fn tell(memory: &mut [u64], event: Event, text: &[u64], seen: &[u64], row: &
             memory,
             1,
             came.by,
-            flag(came.hit),
+            u64::from(came.hit),
             number_of(came.why),
             &[],
             row,

@@ -4,9 +4,9 @@
 mod acts;
 mod debugger;
 mod event;
-mod outcome;
+mod refusal;
 mod rows;
 mod screen;
 
 pub use debugger::Debugger;
-pub use outcome::Outcome;
+pub use refusal::{Refusal, SayError};

@@ -1,67 +1,83 @@
 // Programs, breaks and numbers read back from the row that a step wrote.
-ghost use Rattle.std.specs.Prelude.{◌≤◌, length, take};
-ghost use Rattle.command.specs.Codes.{codes};
-ghost use Rattle.command.specs.Breaks.{breaks_of};
-ghost use Rattle.command.specs.Reader.{so_many, instr, break};
-ghost use Rattle.driver.specs.Rows.{Filled, Listed, Copied};
+ghost use Rattle.std.specs.Prelude.{ℕ, length};
+ghost use Rattle.command.specs.Machine.{each, Instr as PlainInstr};
+ghost use Rattle.command.specs.Plain.{Break as PlainBreak};
+ghost use Rattle.command.specs.Codes.{code};
+ghost use Rattle.command.specs.Breaks.{break_of, breaks_of};
+ghost use Rattle.command.specs.Reader.{Reader, so_many, instr, break};
+ghost use Rattle.command.specs.Taken.{left, itself, Takes};
+ghost use Rattle.driver.specs.Rows.{Filled, one_word};
 
-use command::breaks::{Break, Subject, Test};
-use command::code::{Comparison, Instr};
+use crate::event::{Ending, FAULT};
+use command::breaks::Break;
+use command::code::Instr;
 use command::reading::Cursor;
 
-const BLANK_TEST: Test = Test {
-    subject: Subject::Word(0),
-    comparison: Comparison::Equal,
-    value: 0,
-};
+// What is spelled in a row, one behind the other.
+pub trait Spelled: Copy {
+    ghost Plain: { Type 0 };
 
-const BLANK: Break = Break {
-    place: None,
-    tests: [BLANK_TEST; 8],
-    count: 0,
-    changed: None,
-};
+    ghost plain: { Self → Plain };
 
-// Fills `program` with instructions from the front of a text; false if it does not spell so many.
-pub fn read_program(text: &[u64], program: &mut [Instr]) -> bool
-    ensures { Filled result (so_many instr (length program.old) text.now) (codes program.new) }
-{
-    let mut cursor = Cursor { rest: text };
-    for i in 0..program.len() {
-        let Some(instr) = cursor.instr() else {
-            return false;
-        };
-        program[i] = instr;
-    }
-    true
+    ghost reader: { Reader Plain };
+
+    // The next one of a text.
+    fn next(cursor: &mut Cursor<'_>) -> Option<Self>
+        ensures { Takes plain (reader (left cursor.old)) result (left cursor.new) };
 }
 
-// So many breaks from the front of a text, and blank ones behind them; none if it does not spell so many.
-pub fn read_breaks(text: &[u64], count: u64) -> Option<[Break; 64]>
-    requires { count ≤ 64 }
-    ensures { Listed result (λ bs. breaks_of (take count bs)) (so_many break count text.now) }
-{
-    let mut cursor = Cursor { rest: text };
-    let mut breaks = [BLANK; 64];
-    for i in 0..count {
-        let Some(stop) = cursor.stop() else {
-            return None;
-        };
-        breaks[i as usize] = stop;
+impl Spelled for Instr {
+    ghost Plain = { PlainInstr };
+
+    ghost plain = { code };
+
+    ghost reader = { instr };
+
+    fn next(cursor: &mut Cursor<'_>) -> Option<Instr> {
+        cursor.instr()
     }
-    Some(breaks)
 }
 
-// Fills `numbers` from the front of a row; false if one of those is no word.
-pub fn read_numbers(row: &[u64], numbers: &mut [u32]) -> bool
-    requires { length numbers.old ≤ length row.now }
-    ensures { Copied result row.now numbers.new }
-{
-    for i in 0..numbers.len() {
-        let Ok(word) = u32::try_from(row[i]) else {
-            return false;
-        };
-        numbers[i] = word;
+impl Spelled for Break {
+    ghost Plain = { PlainBreak };
+
+    ghost plain = { break_of };
+
+    ghost reader = { break };
+
+    fn next(cursor: &mut Cursor<'_>) -> Option<Break> {
+        cursor.stop()
     }
-    true
+}
+
+impl Spelled for u32 {
+    ghost Plain = { ℕ };
+
+    ghost plain = { itself };
+
+    ghost reader = { one_word };
+
+    // A row holds a number as it is.
+    fn next(cursor: &mut Cursor<'_>) -> Option<u32> {
+        let (number, rest) = cursor.rest.split_first()?;
+        cursor.rest = rest;
+        u32::try_from(*number).ok()
+    }
+}
+
+// Fills `slots` from the front of a text; an act cannot be if it does not spell so many.
+pub fn read_back<T: Spelled>(text: &[u64], slots: &mut [T]) -> Result<(), Ending>
+    ensures { Filled result (so_many T.reader (length slots.old) text.now) (each T.plain slots.new) }
+{
+    let mut cursor = Cursor { rest: text };
+    for slot in slots {
+        *slot = T::next(&mut cursor).ok_or(FAULT)?;
+    }
+    Ok(())
+}
+
+pub fn read_breaks(text: &[u64], breaks: &mut [Break]) -> Result<(), Ending>
+    ensures { Filled result (so_many break (length breaks.old) text.now) (breaks_of breaks.new) }
+{
+    read_back(text, breaks)
 }

@@ -29,19 +29,19 @@ impl Screen {
         self.shown = false;
     }
 
-    // Shows a text, if none is shown yet.
-    pub fn show(&mut self, text: &[u64]) -> bool
+    // Shows a text; none if one is shown already.
+    pub fn show(&mut self, text: &[u64]) -> Option<()>
         requires { length text.now ≤ 65536 }
         ensures { ShowsIt result (showed self.old.shown self.old.text.items) text.now (showed self.new.shown self.new.text.items) }
     {
         if self.shown {
-            return false;
+            return None;
         }
         self.text.clear();
         // There is room for the longest text.
         let _ = self.text.extend_from_slice(text);
         self.shown = true;
-        true
+        Some(())
     }
 
     pub fn text(&self) -> Option<&[u64]>

@@ -1,16 +1,19 @@
-use Rattle.std.proofs.Common.{◌≡◌, length, get_or, take, arith}
+use Rattle.std.proofs.Common.{◌≡◌, length, take, ◌∙◌, arith}
 use Rattle.std.proofs.lemmas.List.{take-append-le}
-use Rattle.driver.proofs.Serving.{saw_outs, outs_few}
+use Rattle.machine.specs.declared.acts.Told.TheVariants.{Looks}
+use Rattle.machine.specs.declared.acts.Look.TheVariants.{Outs}
+use Rattle.driver.proofs.Serving.{passed_on, saw_outs, outs_few}
 use Rattle.driver.proofs.Seen.{front_length}
 use Rattle.driver.proofs.acts.look_at_outs.Goals as goal
 
-pub returns-then-count-gt-MOST : goal.returns-then-count-gt-MOST
-returns-then-count-gt-MOST g c = record { done = outs_few _ _ _ _ _ c.if-count-gt-MOST.true (λ t l. l); sound = tt }
+pub returns-in_err-count-clause-done : goal.returns-in_err-count-clause-done
+returns-in_err-count-clause-done g c = let k = c.in_err-count.ensures in passed_on _ _ _ _ _ (Looks Outs) _ k.0 c.from_residual.ensures.1 (outs_few _ _ _ _ _ k.1 (λ t l. l))
 
-pub returns-in-Ok : goal.returns-in-Ok
-returns-in-Ok g c =
-    let n = get_or c.args.row.now 1 0 in
-    let xs = c.args.seen.now in
-    let k = c.in-Ok.ensures in
-    let l : length (take n xs) ≡ n = front_length n xs (omega (arith, c.requires.seen, c.if-count-gt-MOST.false)) in
-    record { done = saw_outs _ _ _ _ _ _ c.in-Ok.found (take c.in-Ok.found c.outs.new.seen) l (take-append-le c.in-Ok.found c.outs.new.seen _ (omega (arith, k.1, c.outs.auto.seen))) k.3; sound = omega (arith, k.0, k.1) }
+pub returns-clause-done : goal.returns-clause-done
+returns-clause-done g c =
+    let n = c.in_ok-count.count in
+    let found = c.in_ok-found.found in
+    let k = c.in_ok-count.ensures in
+    let h = c.in_ok-found.ensures in
+    let l : length (take n c.args.seen.now) ≡ n = front_length n c.args.seen.now (omega (arith, k.1)) in
+    saw_outs _ _ _ _ _ _ found (take found c.outs.new.seen) (l ∙ k.0) (take-append-le found c.outs.new.seen _ (omega (arith, h.1, c.outs.auto.seen))) h.3

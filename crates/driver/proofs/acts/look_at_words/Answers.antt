@@ -1,15 +1,17 @@
-use Rattle.std.proofs.Common.{◌≡◌, length, get_or, take, arith}
+use Rattle.std.proofs.Common.{◌≡◌, length, take, ◌∙◌, arith}
 use Rattle.std.proofs.lemmas.List.{take_at}
-use Rattle.driver.proofs.Serving.{saw_words, words_few}
+use Rattle.machine.specs.declared.acts.Told.TheVariants.{Looks}
+use Rattle.machine.specs.declared.acts.Look.TheVariants.{Words}
+use Rattle.driver.proofs.Serving.{passed_on, saw_words, words_few}
 use Rattle.driver.proofs.Seen.{front_length}
 use Rattle.driver.proofs.acts.look_at_words.Goals as goal
 
-pub returns-then-count-gt-MOST : goal.returns-then-count-gt-MOST
-returns-then-count-gt-MOST g c = record { done = words_few _ _ _ _ _ c.if-count-gt-MOST.true (λ t l. l); sound = tt }
+pub returns-in_err-count-clause-done : goal.returns-in_err-count-clause-done
+returns-in_err-count-clause-done g c = let k = c.in_err-count.ensures in passed_on _ _ _ _ _ (Looks Words) _ k.0 c.from_residual.ensures.1 (words_few _ _ _ _ _ k.1 (λ t l. l))
 
-pub returns-in-Ok : goal.returns-in-Ok
-returns-in-Ok g c =
-    let n = get_or c.args.row.now 1 0 in
-    let xs = c.args.seen.now in
-    let l : length (take n xs) ≡ n = front_length n xs (omega (arith, c.requires.seen, c.if-count-gt-MOST.false)) in
-    record { done = saw_words _ _ _ _ _ _ n c.words.new.seen l (take_at c.words.new.seen _ _ (omega (arith, l))) c.in-Ok.ensures.1; sound = c.if-count-gt-MOST.false }
+pub returns-clause-done : goal.returns-clause-done
+returns-clause-done g c =
+    let n = c.in_ok-count.count in
+    let k = c.in_ok-count.ensures in
+    let l : length (take n c.args.seen.now) ≡ n = front_length n c.args.seen.now (omega (arith, k.1)) in
+    saw_words _ _ _ _ _ _ n c.words.new.seen (l ∙ k.0) (take_at c.words.new.seen _ _ (omega (arith, l))) c.in_ok-words.ensures.1

@@ -1,18 +1,26 @@
+use Rattle.std.proofs.Common.{Ok, Err, ◌∙◌}
 use Rattle.machine.specs.declared.acts.Told.TheVariants.{Starts}
-use Rattle.driver.proofs.Serving.{as_heard, heard_sound, starts_few, starts_read, started}
+use Rattle.driver.proofs.Serving.{at_exit, starts_few, starts_read, started}
 use Rattle.driver.proofs.Seen.{blank_length}
 use Rattle.driver.proofs.acts.start.Goals as goal
 
-pub returns-then-count-gt-MOST : goal.returns-then-count-gt-MOST
-returns-then-count-gt-MOST g c = record { done = λ seen. starts_few _ _ _ _ seen c.args.count _ c.if-count-gt-MOST.true; sound = λ n. tt }
+pub returns-in_err-program-clause-done : goal.returns-in_err-program-clause-done
+returns-in_err-program-clause-done g c = λ seen. starts_few _ _ _ _ seen c.args.count _ c.in_err-program.ensures.1
 
-pub returns-then-not-read_program : goal.returns-then-not-read_program
-returns-then-not-read_program g c = record { done = λ seen. starts_read _ _ _ _ seen c.args.count _ _ (blank_length c.args.count 4096 _ c.if-count-gt-MOST.false) c.if-not-read_program.ensures; sound = λ n. tt }
+pub returns-in_err-read_back-clause-done : goal.returns-in_err-read_back-clause-done
+returns-in_err-read_back-clause-done g c =
+    let k = c.in_ok-program.ensures in λ seen. starts_read _ _ _ _ seen c.args.count _ _ (blank_length c.in_ok-program.field-0 4096 _ k.1 ∙ k.0) c.in_err-read_back.ensures.1
 
-pub returns : goal.returns
-returns g c =
-    let k = c.if-not-read_program.ensures in
-    record {
-      done = λ seen. as_heard _ _ _ _ seen (Starts c.args.count) c.heard.ensures (started _ _ _ _ seen c.args.count _ (blank_length c.args.count 4096 _ c.if-count-gt-MOST.false) c.read_program.new.program k.0 k.1 c.begin.result c.begin.ensures);
-      sound = heard_sound c.begin.result c.heard.ensures;
-    }
+pub returns-in_err-begin-clause-done : goal.returns-in_err-begin-clause-done
+returns-in_err-begin-clause-done g c =
+    let k = c.in_ok-program.ensures in
+    let r = c.in_ok-read_back.ensures in
+    λ seen.
+    at_exit _ _ _ _ seen (Starts c.args.count) _ c.from_residual-in_err-begin.ensures.1
+    (started _ _ _ _ seen c.args.count _ (blank_length c.in_ok-program.field-0 4096 _ k.1 ∙ k.0) c.read_back.new.slots r.0 r.1 {A = Unit {0}} (Err c.in_err-begin.field-0.0) c.in_err-begin.ensures)
+
+pub returns-clause-done : goal.returns-clause-done
+returns-clause-done g c =
+    let k = c.in_ok-program.ensures in
+    let r = c.in_ok-read_back.ensures in
+    λ seen. started _ _ _ _ seen c.args.count _ (blank_length c.in_ok-program.field-0 4096 _ k.1 ∙ k.0) c.read_back.new.slots r.0 r.1 {A = Unit {0}} (Ok tt) c.in_ok-begin.ensures

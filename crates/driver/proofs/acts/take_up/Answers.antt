@@ -1,10 +1,10 @@
+use Rattle.std.proofs.Common.{Ok, Err}
 use Rattle.machine.specs.declared.acts.Told.TheVariants.{TakesUp}
-use Rattle.driver.proofs.Serving.{as_heard, heard_sound, took}
+use Rattle.driver.proofs.Serving.{at_exit, took}
 use Rattle.driver.proofs.acts.take_up.Goals as goal
 
-pub returns : goal.returns
-returns g c =
-    record {
-      done = λ seen. as_heard _ _ _ _ seen (TakesUp c.args.slot) c.heard.ensures (took _ _ _ _ seen c.args.slot c.take_up.result c.take_up.ensures);
-      sound = heard_sound c.take_up.result c.heard.ensures;
-    }
+pub returns-in_err-take_up-clause-done : goal.returns-in_err-take_up-clause-done
+returns-in_err-take_up-clause-done g c = λ seen. at_exit _ _ _ _ seen (TakesUp c.args.slot) c.from_residual.result c.from_residual.ensures.1 (took _ _ _ _ seen c.args.slot {A = Unit {0}} (Err c.in_err-take_up.field-0.0) c.in_err-take_up.ensures)
+
+pub returns-clause-done : goal.returns-clause-done
+returns-clause-done g c = λ seen. took _ _ _ _ seen c.args.slot {A = Unit {0}} (Ok tt) c.in_ok-take_up.ensures
