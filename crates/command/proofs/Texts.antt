@@ -1,24 +1,12 @@
 -- Readers at texts that are known in part: by their first number, or by what is read of them.
-use Rattle.std.proofs.Common.{◌≡◌, ℕ, suc, ◌+◌, ◌*◌, ◌<◌, Bool, true, false, List, [], ◌∷◌, ◌++◌, length, Some, None, Option, sym, refl, ap, ◌∙◌, subst, arith}
-use Rattle.std.proofs.lemmas.Bool.{ltb-true}
-use Rattle.command.proofs.Readers.{Exact, Right, bind_at, exact_byte}
-use Rattle.command.specs.Machine.{pick}
+use Rattle.std.proofs.Common.{◌≡◌, ℕ, suc, ◌+◌, ◌*◌, ◌<◌, Bool, true, List, [], ◌∷◌, ◌++◌, length, Some, None, Option, sym, refl, ap, ◌∙◌, subst, arith}
+use Rattle.command.proofs.Readers.{Exact, Right, bind_at}
 use Rattle.command.specs.Taken.{Takes}
-use Rattle.command.specs.Reader.{Got, nothing, got, Reader, bind, only, byte, bytes, first, below}
+use Rattle.command.specs.Reader.{Got, nothing, got, Reader, bind, byte, bytes, first, below}
 
 pub text_none : (t : List ℕ) → length t < 1 → t ≡ []
 text_none [] h = refl
 text_none (b ∷ t) h = absurd (omega arith)
-
-module _ {A : Type 0} where
-  pub only_at : {g : Got A} {a : A} {u : List ℕ} (p : A → Bool) → g ≡ got a u → p a ≡ true → only p g ≡ got a u
-  only_at {g} {a} {u} p e h = ap (only p) e ∙ ap (λ b. pick b (got a u) nothing) h
-
-  pub only_not : {g : Got A} {a : A} {u : List ℕ} (p : A → Bool) → g ≡ got a u → p a ≡ false → only p g ≡ nothing
-  only_not {g} {a} {u} p e h = ap (only p) e ∙ ap (λ b. pick b (got a u) nothing) h
-
-  pub only_nothing : {g : Got A} (p : A → Bool) → g ≡ nothing → only p g ≡ nothing
-  only_nothing {g} p e = ap (only p) e
 
 -- the first number of a text, however its bytes are held
 module _ {B : Type 0} (text : List B → List ℕ) where
@@ -34,9 +22,6 @@ module _ {B : Type 0} (text : List B → List ℕ) where
 -- what an exact reader read was written so, and is as it should be
 pub read_so : {A : Type 0} {w : A → List ℕ} {ok : A → Bool} {r : Reader A} (e : Exact w ok r) {t u : List ℕ} {a : A} → r t ≡ got a u → (w a ++ u ≡ t) × (ok a ≡ true)
 read_so {A} {w} {ok} e {t} h = subst (Right w ok t) h (e.back t)
-
-pub byte_below : (m : ℕ) (t : List ℕ) {b : ℕ} {u : List ℕ} → byte (below m) t ≡ got b u → b < m
-byte_below m t h = ltb-true _ m (read_so (exact_byte (below m)) h).1
 
 -- go on with what was read, or with nothing
 pub bind_nothing : {A B : Type 0} {g : Got A} (k : A → Reader B) → g ≡ nothing → bind g k ≡ nothing

@@ -36,9 +36,10 @@ pub flat_each : {A B : Type 0} (w : B → List ℕ) (f : A → B) (xs : List A) 
 flat_each w f [] = refl
 flat_each w f (x ∷ xs) = ap (λ l. w (f x) ++ l) (flat_each w f xs)
 
--- a list with its count before it
-pub counted_each : {A B : Type 0} (w : B → List ℕ) (f : A → B) (xs : List A) → eight (length xs) ++ flat (λ x. w (f x)) xs ≡ eight (length (each f xs)) ++ flat w (each f xs)
-counted_each w f xs = λ i. eight (sym (each_length f xs) i) ++ flat_each w f xs i
+-- one byte more, however bytes are held
+pub pushed : {B : Type 0} (text : List B → List ℕ) → ((s t : List B) → text (s ++ t) ≡ text s ++ text t) → (old : List B) {new : List B} {x : B} {b : ℕ}
+    → new ≡ old ++ x ∷ [] → text (x ∷ []) ≡ b ∷ [] → text new ≡ text old ++ b ∷ []
+pushed text joined old {new} {x} e h = ap text e ∙ (joined old (x ∷ []) ∙ ap (λ l. text old ++ l) h)
 
 -- one more of a list
 module _ (old : List ℕ) {mid : List ℕ} where

@@ -1,11 +1,7 @@
 -- How what the code writes stands for what is spelled. Assumes nothing: these are definitions.
 use Rattle.std.specs.Prelude.{◌≡◌, ℕ, List, ◌++◌, length, Ok, Err, Result}
 use Rattle.command.specs.Machine.{eight, flat, Instr}
-use Rattle.command.specs.Plain.{instr_spelled, test_spelled}
-use Rattle.command.specs.Codes.{code}
-use Rattle.command.specs.Breaks.{test_of}
-use Rattle.command.specs.declared.code.Instr.{Instr as Code}
-use Rattle.command.specs.declared.breaks.Test.{Test}
+use Rattle.command.specs.Plain.{instr_spelled}
 
 -- so much is written behind what was; or there was no memory
 abbrev pub Puts : {A E : Type 0} → List ℕ → List ℕ → Result A E → List ℕ → Type 0
@@ -15,9 +11,3 @@ Puts old more (Err e) new = Unit {0}
 -- a program: a count, and then each instruction
 abbrev pub program_spelled : List Instr → List ℕ
 program_spelled is = eight (length is) ++ flat instr_spelled is
-
-abbrev pub instr_written : Code → List ℕ
-instr_written i = instr_spelled (code i)
-
-abbrev pub test_written : Test → List ℕ
-test_written t = test_spelled (test_of t)

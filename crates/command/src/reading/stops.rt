@@ -47,8 +47,8 @@ impl<B: Byte> Cursor<'_, B> {
         ensures { Takes (λ ts. each test_of (take count ts)) (so_many test count (left_in B.text self.old)) result (left_in B.text self.new) }
     {
         let mut tests = [BLANK; 8];
-        for i in 0..count {
-            tests[i as usize] = self.test()?;
+        for test in &mut tests[..count as usize] {
+            *test = self.test()?;
         }
         Some(tests)
     }

@@ -1,13 +1,12 @@
-use Rattle.std.proofs.Common.{[], ◌∷◌, ◌++◌, vec_items, refl, ap, ◌∙◌}
+use Rattle.std.proofs.Common.{◌++◌, vec_items, refl, ap, ◌∙◌}
 use Rattle.std.proofs.lemmas.List.{take_all}
-use Rattle.command.proofs.Writes.{byte_more}
+use Rattle.command.proofs.Writes.{byte_more, pushed}
 use Rattle.command.proofs.writing.parts.put.Goals as goal
 
 pub loop-byte-preserved : goal.loop-byte-preserved
 loop-byte-preserved g c =
     let text = g.B.Byte.text in
-    let old = vec_items c.loop-byte.out in
-    let wrote = ap text c.in_ok-push.ensures.items ∙ (g.met.B.Byte.joined old (c.of.result ∷ []) ∙ ap (λ l. text old ++ l) c.of.ensures) in
+    let wrote = pushed text g.met.B.Byte.joined (vec_items c.loop-byte.out) {new = vec_items c.push.new.self} c.in_ok-push.ensures.items c.of.ensures in
     byte_more (text (vec_items c.args.out.now)) c.args.bytes.now c.loop-byte.byte-index 0 (text (vec_items c.push.new.self)) c.loop-byte.invariant c.loop-byte-test.true refl wrote
 
 pub returns : goal.returns

@@ -6,7 +6,7 @@ use Rattle.command.specs.Taken.{left_in}
 use Rattle.command.proofs.Many.{Left}
 use Rattle.command.proofs.reading.cursor.Cursor.tests.Given as goal
 
-abbrev pub invariant-loop-i : goal.invariant-loop-i
-invariant-loop-i g l =
+abbrev pub invariant-loop-test : goal.invariant-loop-test
+invariant-loop-test g l =
     let text = g.B.Byte.text in
-    (length l.tests ≡ 8) × Left test l.count (left_in text l.initial.self) (l.count - l.i) (each test_of (take l.i l.tests)) (left_in text l.self)
+    (length l.test-items ≡ l.count) × Left test l.count (left_in text l.initial.self) (l.count - l.test-index) (each test_of (take l.test-index l.test-items)) (left_in text l.self)
