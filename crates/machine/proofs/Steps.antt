@@ -1,7 +1,8 @@
 -- The whole step, by whether what is lent fits.
-use Rattle.std.proofs.Common.{◌≡◌, ℕ, ◌+◌, ◌≤◌, true, false, ◌&&◌, eqb, leb, List, [], ◌∷◌, ◌++◌, length, take, drop, refl, ap, ◌∙◌, sym, subst, arith, append_assoc, length-append}
+use Rattle.std.proofs.Common.{◌≡◌, ◌≢◌, ℕ, ◌+◌, ◌<◌, ◌≤◌, true, false, ◌&&◌, eqb, leb, List, [], ◌∷◌, ◌++◌, length, take, drop, refl, ap, ◌∙◌, sym, subst, arith, append_assoc, length-append}
 use Rattle.std.proofs.lemmas.List.{length-replicate, length-take-le, drop-append-le, take-append-drop}
 use Rattle.std.proofs.lemmas.Bool.{eq-eqb, le-leb}
+use Rattle.std.proofs.lemmas.Bool.Decides.{nat_tests}
 use Rattle.command.specs.Machine.{flat}
 use Rattle.command.specs.Plain.{break_spelled}
 use Rattle.target.specs.Run.{Event, Act, starts, feeds, goes, keeps, takes_up, looks_regs, looks_words, looks_outs, looks_where, shows, done, refused}
@@ -39,6 +40,16 @@ fits_is m kind out = rw (length-replicate {A = ℕ} 32000 0)
 
 pub fits_all : (m : List ℕ) (kind : ℕ) (out : List ℕ) → length m ≡ 32000 → kind ≤ 3 → 65536 ≤ length out → step_fits m kind out ≡ true
 fits_all m kind out l k w = fits_is m kind out ∙ rw (eq-eqb (length m) 32000 l, le-leb kind 3 k, le-leb 65536 (length out) w) refl
+
+module _ (m : List ℕ) (kind : ℕ) (out : List ℕ) where
+  pub kind_unfit : 3 < kind → step_fits m kind out ≡ false
+  kind_unfit h = let f = fits_is m kind out in grind (arith, nat_tests)
+
+  pub memory_unfit : length m ≢ 32000 → step_fits m kind out ≡ false
+  memory_unfit h = let f = fits_is m kind out in grind (arith, nat_tests)
+
+  pub row_unfit : length out < 65536 → step_fits m kind out ≡ false
+  row_unfit h = let f = fits_is m kind out in grind (arith, nat_tests)
 
 module _ (m : List ℕ) (kind a b c : ℕ) (told out : List ℕ) where
   pub step_refused : step_fits m kind out ≡ false → StepSays m kind a b c told out (step_fits m kind out) (No Unfit) m out

@@ -3,7 +3,7 @@ ghost use Rattle.std.specs.Prelude.{◌≡◌, ◌-◌, true, length, drop};
 ghost use Rattle.command.specs.Machine.{smaller};
 ghost use Rattle.command.specs.Reader.{some, read_command, Says as SaysSo};
 ghost use Rattle.command.specs.Plain.{load as loading, give as giving, fits};
-ghost use Rattle.command.specs.Told.{meant, told as told_by, program_in, numbers_in, Counts};
+ghost use Rattle.command.specs.Told.{meant, program_in, numbers_in};
 ghost use Rattle.machine.specs.Engine.{begin as beginning, begin_read};
 ghost use Rattle.machine.specs.Lent.{Does};
 
@@ -94,27 +94,15 @@ impl Lent<'_> {
         }
     }
 
-    // A command that was read from the text.
-    #[tactic(auto, unfolding(crate::specs::Engine::begin_read, command::specs::Plain::core))]
-    fn begin(self, command: Command, text: &[u64]) -> Told
-        requires says { SaysSo text.now (told_by (drop 1 text.now) command) }
-        requires counts { Counts (drop 1 text.now) command }
-        ensures { Does (begin_read self.entry.memory.now (some (told_by (drop 1 text.now) command))) self.entry result self.exit }
-    {
-        match command {
-            Command::Load(count) => self.load(count, text),
-            Command::Give(count) => self.give(count, text),
-            Command::Order(order) => self.obey(order),
-        }
-    }
-
     // Something was said.
-    #[tactic(auto, unfolding(crate::specs::Engine::begin_read, crate::specs::Engine::written))]
+    #[tactic(auto, unfolding(crate::specs::Engine::begin_read, crate::specs::Engine::written, command::specs::Plain::core))]
     pub fn hear(self, text: &[u64]) -> Told
         ensures { Does (begin_read self.entry.memory.now (read_command text.now)) self.entry result self.exit }
     {
         match read(text) {
-            Ok(command) => self.begin(command, text),
+            Ok(Command::Load(count)) => self.load(count, text),
+            Ok(Command::Give(count)) => self.give(count, text),
+            Ok(Command::Order(order)) => self.obey(order),
             Err(_) => Told::No(Refusal::Unexpected),
         }
     }
