@@ -25,7 +25,7 @@ fn flush(items: &[u32], dirty: &[bool; 256], pages: &mut Pages)
     }
 }
 
-// The words become the slot's.
+// The words become the slot's. While this runs the ghost fields of `Words` don't hold, so it is no method of it.
 fn restore(items: &mut [u32], dirty: &[bool; 256], pages: &Pages, slot: u8)
     requires full { length items.old ≡ 65536 }
     requires clean { Clean items.old dirty.now pages.now.cells.items pages.now.tables.items }
