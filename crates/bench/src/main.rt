@@ -57,14 +57,9 @@ fn timed(
     breaks: &[Break],
     keep: bool,
 ) -> anyhow::Result<()> {
-    if let Err(fault) = p.begin(program) {
-        return Err(told(fault));
-    }
+    p.begin(program).map_err(told)?;
     let begun = Instant::now(rt)?;
-    let by = match strides(p, breaks, keep) {
-        Ok(by) => by,
-        Err(fault) => return Err(told(fault)),
-    };
+    let by = strides(p, breaks, keep).map_err(told)?;
     let us = begun.elapsed(rt)?.as_micros();
     let at = p.spot().at;
     println!(rt; "{name} {us} us, {by} steps, at {at}")?;
@@ -74,9 +69,7 @@ fn timed(
 fn taken_up(rt: &HostRuntime, p: &mut Emulator) -> anyhow::Result<()> {
     let begun = Instant::now(rt)?;
     for i in 0..STRIDES {
-        if let Err(fault) = p.take_up(i % 256) {
-            return Err(told(fault));
-        }
+        p.take_up(i % 256).map_err(told)?;
     }
     let us = begun.elapsed(rt)?.as_micros();
     println!(rt; "taken-up {us} us, {STRIDES} times")?;
@@ -90,12 +83,10 @@ fn run(rt: &HostRuntime) -> anyhow::Result<()> {
         return Ok(());
     };
     let text = fs::read(rt, file.as_str())?;
-    let Ok(assembly) = assemble(rt.alloc(), text.as_slice()) else {
-        return Err(anyhow!("the program does not assemble"));
-    };
-    let Some(watch) = never() else {
-        return Err(anyhow!("no such break"));
-    };
+    let assembly = assemble(rt.alloc(), text.as_slice()).map_err(|_| anyhow!(
+        "the program does not assemble"
+    ))?;
+    let watch = never().ok_or_else(|| anyhow!("no such break"))?;
     let none: [Break; 0] = [];
     let program = assembly.program.as_slice();
     let mut p = Emulator::new(rt.alloc())?;

@@ -21,6 +21,7 @@ impl Processor for Emulator {
 
     ghost room = { λ e. room_of e };
 
+    // Here and below, each limit has a fault of its own, so each is an `if`.
     fn begin(&mut self, program: &[Instr]) -> Result<(), Fault> {
         if program.len() > 4096 {
             return Err(Fault::TooLong);

@@ -3,6 +3,7 @@ ghost use Rattle.std.specs.Prelude.{◌≡◌};
 
 use crate::state::State;
 
+// In `State` these lie beside the words and the log that a step changes with them: as a struct there, each would have a second name before it.
 #[derive(Clone, Copy)]
 pub(crate) struct Kept {
     pub(crate) at: u32,

@@ -23,7 +23,7 @@ pub(crate) fn compare(comparison: Comparison, a: u32, b: u32) -> bool
     }
 }
 
-// The log with one number more laid over it.
+// The log with one number more laid over it. No step may want memory, so room is taken before, as much as one stride may use up.
 fn lay(log: &mut Vec<u32>, put: usize, v: u32)
     requires room { put < vec_capacity log.old }
     ensures laid { (out base : List ℕ) → log.old.items ≡ laid out base → length out ≡ put → log.new.items ≡ laid (out ++ v ∷ []) base }

@@ -34,27 +34,16 @@ impl State {
         requires { a < 65536 }
         ensures { (b : Base) (s t : Model) → OnTo b self.now wrote s t → result ≡ not (word_at s.words a == word_at t.words a) }
     {
-        match wrote {
-            Some(word) => word.place == a && word.before != self.words.get(a),
-            None => false,
-        }
+        wrote.is_some_and(|word| word.place == a && word.before != self.words.get(a))
     }
 
     // The tests come last, as they cost most.
     fn holds(&self, stop: &Break, wrote: Option<Overwritten>) -> bool
         ensures { (b : Base) (s t : Model) → OnTo b self.now wrote s t → result ≡ held_by s t (break_of stop.now) }
     {
-        if let Some(p) = stop.place {
-            if self.at != p as u32 {
-                return false;
-            }
-        }
-        if let Some(a) = stop.changed {
-            if !self.changed(a as usize, wrote) {
-                return false;
-            }
-        }
-        self.all_pass(stop)
+        stop.place.is_none_or(|p| self.at == p as u32)
+            && stop.changed.is_none_or(|a| self.changed(a as usize, wrote))
+            && self.all_pass(stop)
     }
 
     pub(crate) fn any_holds(&self, breaks: &[Break], wrote: Option<Overwritten>) -> bool

@@ -82,6 +82,7 @@ impl Pages {
         ensures room { vec_len self.old.free ≡ vec_len self.new.free + 1 }
         ensures stored { Stored words.now p self.old.cells.items self.old.tables.items self.new.cells.items self.new.tables.items }
     {
+        // A page is free by the contract, so there is no error to hand on.
         let Some(f) = self.free.pop() else {
             return;
         };

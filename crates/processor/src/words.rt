@@ -6,6 +6,7 @@ use crate::pages::Pages;
 
 #[derive(Drop)]
 pub(crate) struct Words {
+    // A `Vec`, since an array of that size in a box would be made on the stack first.
     pub(crate) items: Vec<u32>,
     // Which pages were written since they were kept.
     pub(crate) dirty: [bool; 256],

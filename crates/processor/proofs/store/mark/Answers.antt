@@ -1,11 +1,11 @@
-use Rattle.std.proofs.Common.{◌≡◌, ℕ, ◌<◌, false, length, get_or, ap, ◌∙◌, arith, below_more}
+use Rattle.std.proofs.Common.{◌≡◌, ℕ, ◌<◌, false, length, get_or, arith, below_more}
 use Rattle.processor.proofs.Marks.{none_marked, one_marked, mark_stays, mark_there}
-use Rattle.processor.proofs.Defaults.{defaults_copies}
+use Rattle.processor.proofs.Defaults.{defaults}
 use Rattle.processor.proofs.store.mark.Goals as goal
 
 pub loop-page-init : goal.loop-page-init
 loop-page-init c =
-    let none : (k : ℕ) → k < length c.fill.new.self → get_or c.fill.new.self k false ≡ false = λ k h. ap (λ z. get_or z k false) (c.fill.ensures.after (λ y e. e)) ∙ defaults_copies _ false k in
+    let none : (k : ℕ) → k < length c.fill.new.self → get_or c.fill.new.self k false ≡ false = λ k h. defaults _ _ false (c.fill.ensures.after (λ y e. e)) k in
     (omega (arith, none_marked c.fill.new.self none), λ j h. absurd (omega arith))
 
 pub loop-page-preserved : goal.loop-page-preserved

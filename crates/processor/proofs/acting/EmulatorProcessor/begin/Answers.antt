@@ -2,7 +2,7 @@ use Rattle.std.proofs.Common.{rules, ◌≡◌, ℕ, ◌+◌, ◌≤◌, ◌++�
 use Rattle.command.specs.Codes.{code, codes}
 use Rattle.target.proofs.Doing.{each_length, refuses_starts, does_starts}
 use Rattle.processor.specs.Holding.{Held}
-use Rattle.processor.proofs.Defaults.{defaults_copies}
+use Rattle.processor.proofs.Defaults.{defaults}
 use Rattle.processor.proofs.Holds.{begun}
 use Rattle.processor.proofs.acting.EmulatorProcessor.begin.Goals as goal
 
@@ -18,7 +18,7 @@ returns c =
     let fits : vec_len c.clear.new.self + length is ≤ vec_capacity c.clear.new.self = omega (arith, c.clear.ensures.len, c.clear.ensures.capacity, e.capacity) in
     let ok = c.extend_from_slice.ensures.succeeds fits in
     let items : vec_items c.extend_from_slice.new.self ≡ is = (simp ok at c.extend_from_slice.ensures.items) ∙ ap (λ z. z ++ is) c.clear.ensures.items in
-    let none : (k : ℕ) → get_or (vec_items c.fill.new.self) k None ≡ None = λ k. ap (λ z. get_or z k None) (c.fill.ensures.items (λ y q. search rules)) ∙ defaults_copies _ None k in
+    let none : (k : ℕ) → get_or (vec_items c.fill.new.self) k None ≡ None = defaults _ _ None (c.fill.ensures.items (λ y q. search rules)) in
     let r = c.restart.ensures in
     let few : length (codes is) ≤ 4096 = omega (arith, each_length code is) in (
       omega arith,

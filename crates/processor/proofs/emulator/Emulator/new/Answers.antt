@@ -1,10 +1,10 @@
-use Rattle.std.proofs.Common.{rules, ◌≡◌, ℕ, [], get_or, None, vec_items, sym, refl, ap, ◌∙◌, subst, arith}
+use Rattle.std.proofs.Common.{rules, ◌≡◌, ℕ, [], get_or, None, vec_items, sym, refl, ap, subst, arith}
 use Rattle.command.specs.Machine.{state_at, is_running, at_start}
 use Rattle.command.specs.Codes.{codes}
 use Rattle.target.specs.Run.{slot_of}
 use Rattle.processor.specs.Like.{Like}
 use Rattle.processor.specs.Holding.{InSlot}
-use Rattle.processor.proofs.Defaults.{defaults_copies}
+use Rattle.processor.proofs.Defaults.{defaults}
 use Rattle.processor.proofs.emulator.Emulator.new.Goals as goal
 
 pub returns : goal.returns
@@ -12,7 +12,7 @@ unfolding state_at is_running slot_of
 returns c =
     let m = c.in_ok-state.state in
     let s = c.in_ok-state.ensures in
-    let none : (k : ℕ) → get_or (vec_items c.in_ok-slots.slots) k None ≡ None = λ k. ap (λ z. get_or z k None) (c.in_ok-slots.ensures.items_if_clones_equal (λ y q. search rules)) ∙ defaults_copies 256 None k in (
+    let none : (k : ℕ) → get_or (vec_items c.in_ok-slots.slots) k None ≡ None = defaults 256 (vec_items c.in_ok-slots.slots) None (c.in_ok-slots.ensures.items_if_clones_equal (λ y q. search rules)) in (
       omega (arith, s.0, s.2),
       (
         0,

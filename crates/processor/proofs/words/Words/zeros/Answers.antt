@@ -1,8 +1,8 @@
-use Rattle.std.proofs.Common.{◌≡◌, ℕ, length, get_or, vec_items, ap, ◌∙◌, arith}
+use Rattle.std.proofs.Common.{◌≡◌, ℕ, length, vec_items, ap, ◌∙◌, arith}
 use lib.ListN.{length-replicate}
 use Rattle.std.proofs.lemmas.Result.{IfOk-from_err}
 use Rattle.processor.specs.Held.{held_word}
-use Rattle.processor.proofs.Defaults.{defaults_copies}
+use Rattle.processor.proofs.Defaults.{defaults}
 use Rattle.processor.proofs.Flushes.{dirty_clean}
 use Rattle.processor.proofs.words.Words.zeros.Goals as goal
 
@@ -17,4 +17,4 @@ invariant_of-result c =
     record { full = omega (arith, v.ok.0); clean = dirty_clean (vec_items v) (held_word c.in_ok-pages.pages) }
 
 pub returns : goal.returns
-returns c = λ a. ap (λ z. get_or z a 0) (c.in_ok-items.ensures.items_if_clones_equal (λ y e. e)) ∙ defaults_copies {A = ℕ} 65536 0 a
+returns c = defaults 65536 _ 0 (c.in_ok-items.ensures.items_if_clones_equal (λ y e. e))
