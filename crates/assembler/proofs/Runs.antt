@@ -1,14 +1,10 @@
--- The longest front of a text, found byte by byte. Assumes nothing.
-use Rattle.std.proofs.Common.{◌≡◌, ℕ, zero, suc, ◌+◌, ◌-◌, ◌<◌, ◌≤◌, Bool, true, false, eqb, List, [], ◌∷◌, ◌++◌, length, get_or, take, drop, Some, None, unwrap_or, sym, refl, ap, ◌∙◌, ⊎_elim, append_assoc, append-nil, arith}
-use Rattle.std.proofs.lemmas.List.{take_more, drop_more, take_all, drop_all, take_rest}
+-- The longest front of a text, byte by byte. Assumes nothing.
+use Rattle.std.proofs.Common.{◌≡◌, ℕ, zero, suc, ◌+◌, ◌-◌, ◌<◌, ◌≤◌, Bool, true, false, eqb, List, [], ◌∷◌, ◌++◌, length, get_or, take, drop, Some, None, unwrap_or, sym, refl, ap, ◌∙◌, ⊎_elim, arith}
+use Rattle.std.proofs.lemmas.List.{take_more, take_rest}
 use Rattle.std.proofs.lemmas.Bool.{eq-eqb, eqb-true, cases_Bool, and_parts}
 use Rattle.std.proofs.lemmas.Bool.Decides.{nat_tests}
 use Rattle.command.specs.Machine.{pick, each}
 use Rattle.assembler.specs.Words.{front, past, behind, in_name, in_line, after_line, a_name, letter, printable}
-
--- so far all bytes are of the front
-abbrev pub Run : (ℕ → Bool) → List ℕ → ℕ → Type 0
-Run p t i = (front p t ≡ take i t ++ front p (drop i t)) × (past p t ≡ past p (drop i t))
 
 pub front_on : (p : ℕ → Bool) (b : ℕ) (bs : List ℕ) → p b ≡ true → front p (b ∷ bs) ≡ b ∷ front p bs
 unfolding front
@@ -25,32 +21,6 @@ past_on p b bs e = rw e
 pub past_off : (p : ℕ → Bool) (b : ℕ) (bs : List ℕ) → p b ≡ false → past p (b ∷ bs) ≡ b ∷ bs
 unfolding past
 past_off p b bs e = rw e
-
-pub run_none : (p : ℕ → Bool) (t : List ℕ) → Run p t 0
-run_none p t = (refl, refl)
-
-pub run_more : (p : ℕ → Bool) (t : List ℕ) (i : ℕ) → i < length t → p (get_or t i 0) ≡ true → Run p t i → Run p t (i + 1)
-run_more p t i h e r =
-    let d = drop_more t i 0 h in
-    let k = take_more t i 0 h in (
-      r.0 ∙ ap (λ u. take i t ++ front p u) d ∙ ap (λ u. take i t ++ u) (front_on p _ _ e) ∙ sym (append_assoc (take i t) (get_or t i 0 ∷ []) (front p (drop (i + 1) t))) ∙ ap (λ u. u ++ front p (drop (i + 1) t)) (sym k),
-      r.1 ∙ ap (past p) d ∙ past_on p _ _ e,
-    )
-
-pub run_stop : (p : ℕ → Bool) (t : List ℕ) (i : ℕ) → i < length t → p (get_or t i 0) ≡ false → Run p t i → (take i t ≡ front p t) × (drop i t ≡ past p t)
-run_stop p t i h e r =
-    let d = drop_more t i 0 h in (
-      sym (r.0 ∙ ap (λ u. take i t ++ front p u) d ∙ ap (λ u. take i t ++ u) (front_off p _ _ e) ∙ append-nil (take i t)),
-      sym (r.1 ∙ ap (past p) d ∙ past_off p _ _ e ∙ sym d),
-    )
-
-pub run_end : (p : ℕ → Bool) (t : List ℕ) (i : ℕ) → length t ≤ i → Run p t i → (take (length t) t ≡ front p t) × (drop (length t) t ≡ past p t)
-unfolding front past
-run_end p t i h r =
-    let d = drop_all i t h in (
-      take_all (length t) t (omega arith) ∙ sym (take_all i t h) ∙ sym (r.0 ∙ ap (λ u. take i t ++ front p u) d ∙ append-nil (take i t)),
-      drop_all (length t) t (omega arith) ∙ sym (r.1 ∙ ap (past p) d),
-    )
 
 pub past_shorter : (p : ℕ → Bool) (t : List ℕ) → length (past p t) ≤ length t
 unfolding past

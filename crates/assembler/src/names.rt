@@ -52,7 +52,7 @@ const OPS: [Op; 10] = [
 // The comparisons of one word: `not below` has two.
 const COMPARISONS: [Comparison; 3] = [Comparison::Equal, Comparison::Unequal, Comparison::Less];
 
-// A word is a name.
+// A word is a name: `==`, with its answer in the words of the definitions.
 pub(crate) fn is_word(word: &[u8], name: &[u8]) -> bool
     ensures { result ≡ bytes_eq word.now name.now }
 {

@@ -10,30 +10,25 @@ use programs::program_of;
 use std::process::ExitCode;
 use std::{env, io};
 
-// Whether a program is listed; where not, standard error says why.
-fn run(rt: &HostRuntime) -> io::Result<bool> {
+// The status to end with; where nothing is listed, standard error says why.
+fn run(rt: &HostRuntime) -> io::Result<ExitCode> {
     let mut words = env::args(rt)?.skip(1);
     let (Some(name), None) = (words.next(), words.next()) else {
         eprintln!(rt; "usage: lister FILE    lists a program from its source text or its bytes")?;
-        return Ok(false);
+        return Ok(ExitCode::FAILURE);
     };
     match program_of(rt, name.as_str()) {
         Ok(assembly) => {
             rt.print(Listing::whole(assembly.program.as_slice(), assembly.labels.as_slice()))?;
-            Ok(true)
+            Ok(ExitCode::SUCCESS)
         }
         Err(failure) => {
             eprintln!(rt; "{name}: {failure}")?;
-            Ok(false)
+            Ok(ExitCode::FAILURE)
         }
     }
 }
 
-// Where nothing is listed, standard error has said why already.
 fn main(rt: HostRuntime) -> anyhow::Result<ExitCode> {
-    if run(&rt)? {
-        Ok(ExitCode::SUCCESS)
-    } else {
-        Ok(ExitCode::FAILURE)
-    }
+    Ok(run(&rt)?)
 }

@@ -33,11 +33,12 @@ impl fmt::Display for Failure {
     }
 }
 
-fn assembled(heap: Global, text: &[u8]) -> Result<Assembly, Failure> {
-    match assemble(heap, text) {
-        Ok(assembly) => Ok(assembly),
-        Err(AssembleError::Wrong(mistake)) => Err(Failure::Wrong(mistake)),
-        Err(AssembleError::NoMemory) => Err(Failure::NoMemory),
+impl From<AssembleError> for Failure {
+    fn from(error: AssembleError) -> Failure {
+        match error {
+            AssembleError::Wrong(mistake) => Failure::Wrong(mistake),
+            AssembleError::NoMemory => Failure::NoMemory,
+        }
     }
 }
 
@@ -48,14 +49,12 @@ pub(crate) fn program_in(heap: Global, bytes: &[u8]) -> Result<Assembly, Failure
             program,
             labels: Vec::new(heap),
         }),
-        Err(ReadError::NoProgram) => assembled(heap, bytes),
+        Err(ReadError::NoProgram) => Ok(assemble(heap, bytes)?),
         Err(ReadError::NoMemory) => Err(Failure::NoMemory),
     }
 }
 
 pub fn program_of(rt: &HostRuntime, name: &str) -> Result<Assembly, Failure> {
-    match fs::read(rt, name) {
-        Ok(bytes) => program_in(rt.alloc(), bytes.as_slice()),
-        Err(error) => Err(Failure::Unread(error.kind())),
-    }
+    let bytes = fs::read(rt, name).map_err(|error| Failure::Unread(error.kind()))?;
+    program_in(rt.alloc(), bytes.as_slice())
 }

@@ -1,8 +1,11 @@
 -- What is left of a list of instructions or labels, turn by turn. Assumes nothing.
-use Rattle.std.proofs.Common.{◌≡◌, ℕ, ◌+◌, ◌<◌, ◌≤◌, Bool, true, false, eqb, List, [], ◌∷◌, ◌++◌, length, get_or, drop, Some, None, string_bytes, codes as chars, decimal, Option, sym, ap, ◌∙◌}
+use Rattle.std.proofs.Common.{◌≡◌, ℕ, ◌+◌, ◌<◌, ◌≤◌, Bool, true, false, eqb, List, [], ◌∷◌, ◌++◌, length, get_or, drop, Some, None, string_bytes, codes as chars, decimal, Option, Bor, sym, refl, ap, ◌∙◌, ⊎_elim}
+use Rattle.std.specs.List.{find, list_any}
+use Rattle.std.specs.Option.{option_map}
+use Rattle.std.proofs.lemmas.Bool.{cases_Bool}
 use Rattle.std.proofs.lemmas.List.{at_drop_more, at_drop_all}
 use Rattle.command.specs.Codes.{code, codes}
-use Rattle.command.specs.Machine.{pick, or, Instr}
+use Rattle.command.specs.Machine.{pick, Instr}
 use Rattle.command.specs.declared.code.Instr.{Instr as Code}
 use Rattle.assembler.specs.Instructions.{Label, labels_of}
 use Rattle.assembler.specs.declared.labels.Label.{Label as LabelCode}
@@ -14,22 +17,11 @@ use Rattle.listing.specs.Labels.{name_of, headings}
 use Rattle.listing.specs.Lines.{line_text}
 use Rattle.listing.specs.Window.{in_window, is_at, lines_on}
 
-pub branch_at : (b : Branch) (is : List Code) (i : ℕ) (x : Code) → i < length is → x ≡ get_or is i x
-    → has_branch b (codes (drop i is)) ≡ or (is_branch b (code x)) (has_branch b (codes (drop (i + 1) is)))
+pub branch_any : (b : Branch) (is : List Code) → list_any (λ (i : Code). is_branch b (code i)) is ≡ has_branch b (codes is)
 unfolding has_branch
-branch_at b is i x h e =
-    at_drop_more (λ u. has_branch b (codes u)) is i x h ∙ ap (λ (k : Code). or (is_branch b (code k)) (has_branch b (codes (drop (i + 1) is)))) (sym e)
-
-pub branch_here : (b : Branch) (is : List Code) (i : ℕ) (x : Code) → i < length is → x ≡ get_or is i x → true ≡ is_branch b (code x) → has_branch b (codes (drop i is)) ≡ true
-branch_here b is i x h e y = branch_at b is i x h e ∙ ap (λ (k : Bool). or k (has_branch b (codes (drop (i + 1) is)))) (sym y)
-
-pub branch_not_here : (b : Branch) (is : List Code) (i : ℕ) (x : Code) → i < length is → x ≡ get_or is i x → false ≡ is_branch b (code x)
-    → has_branch b (codes (drop i is)) ≡ has_branch b (codes (drop (i + 1) is))
-branch_not_here b is i x h e n = branch_at b is i x h e ∙ ap (λ (k : Bool). or k (has_branch b (codes (drop (i + 1) is)))) (sym n)
-
-pub branch_end : (b : Branch) (is : List Code) (i : ℕ) → length is ≤ i → has_branch b (codes (drop i is)) ≡ false
-unfolding has_branch
-branch_end b is i h = at_drop_all (λ u. has_branch b (codes u)) is i h
+branch_any b [] = refl
+branch_any b (i ∷ is) =
+    ⊎_elim (λ (e : is_branch b (code i) ≡ true). rw e refl) (λ (e : is_branch b (code i) ≡ false). rw e (branch_any b is)) (cases_Bool (is_branch b (code i)))
 
 pub source_at : (b : Branch) (is : List Code) (i : ℕ) (t : List ℕ) (x : Code) → i < length is → x ≡ get_or is i x
     → sources_on b i t (codes (drop i is))
@@ -43,15 +35,15 @@ pub source_end : (b : Branch) (is : List Code) (i : ℕ) (t : List ℕ) → leng
 unfolding sources_on
 source_end b is i t h = at_drop_all (λ u. sources_on b i t (codes u)) is i h
 
-pub name_at : (ls : List LabelCode) (i k : ℕ) (l : LabelCode) → i < length ls → l ≡ get_or ls i l
-    → name_of (labels_of (drop i ls)) k ≡ pick (eqb l.place k) (Some (string_bytes l.name)) (name_of (labels_of (drop (i + 1) ls)) k)
+name_found : (k : ℕ) (ls : List LabelCode) → option_map (λ (l : LabelCode). string_bytes l.name) (find (λ (l : LabelCode). eqb l.place k) ls) ≡ name_of (labels_of ls) k
 unfolding name_of
-name_at ls i k l h e =
-    at_drop_more (λ u. name_of (labels_of u) k) ls i l h ∙ ap (λ (m : LabelCode). name_of (labels_of (m ∷ drop (i + 1) ls)) k) (sym e)
+name_found k [] = refl
+name_found k (l ∷ ls) = ⊎_elim (λ (e : eqb l.place k ≡ true). rw e refl) (λ (e : eqb l.place k ≡ false). rw e (name_found k ls)) (cases_Bool (eqb l.place k))
 
-pub name_end : (ls : List LabelCode) (i k : ℕ) → length ls ≤ i → name_of (labels_of (drop i ls)) k ≡ None
-unfolding name_of
-name_end ls i k h = at_drop_all (λ u. name_of (labels_of u) k) ls i h
+pub name_is : (k : ℕ) (ls : List LabelCode) (o : Option (Bor LabelCode)) → option_map (λ x. x.now) o ≡ find (λ (l : LabelCode). eqb l.place k) ls
+    → option_map (λ (x : Bor LabelCode). string_bytes x.now.name) o ≡ name_of (labels_of ls) k
+name_is k ls None e = ap (option_map (λ (l : LabelCode). string_bytes l.name)) e ∙ name_found k ls
+name_is k ls (Some x) e = ap (option_map (λ (l : LabelCode). string_bytes l.name)) e ∙ name_found k ls
 
 pub heading_at : (ls : List LabelCode) (i k : ℕ) (l : LabelCode) → i < length ls → l ≡ get_or ls i l
     → headings (labels_of (drop i ls)) k

@@ -48,6 +48,7 @@ impl Numbers<'_> {
         let mut cursor = Cursor {
             rest: trim(self.text),
         };
+        // Counted down by hand: the line's end and not the count ends the loop, and reading says when there are too many.
         let mut most = MOST_NUMBERS;
         while !cursor.is_over() {
             let Ok(n) = cursor.value(most) else {
@@ -79,6 +80,7 @@ impl<'a> Cursor<'a> {
     {
         let text = self.rest;
         self.skip_blanks();
+        // As in `to_vec`; two loops, since one keeps the numbers and the other takes no memory.
         let mut most = MOST_NUMBERS;
         while !self.is_over() {
             self.value(most)?;

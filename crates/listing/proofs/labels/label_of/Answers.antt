@@ -1,17 +1,18 @@
-use Rattle.std.proofs.Common.{ℕ, List, Some, sym, ap, ◌∙◌, eq-eqb, ne_eqb}
-use Rattle.listing.proofs.Writing.{pick_yes, pick_no}
-use Rattle.listing.proofs.Turns.{name_at, name_end}
+use Rattle.std.proofs.Common.{eqb, rules, tests}
+use Rattle.std.proofs.lemmas.Iterator.{YieldsList-from_slice}
+use Rattle.std.proofs.lemmas.Iterator.Search.{find_from_yields_List}
+use Rattle.assembler.specs.declared.labels.Label.{Label}
+use Rattle.listing.proofs.Turns.{name_is}
 use Rattle.listing.proofs.labels.label_of.Goals as goal
 
-pub returns-then-label-place : goal.returns-then-label-place
-returns-then-label-place c =
-    let e = name_at c.args.labels.now c.loop-label.label-index c.args.place c.label-item.result c.loop-label-test.true c.label-item.is in
-    ap (λ (t : List ℕ). Some t) c.as_str.ensures.value ∙ sym (e ∙ pick_yes _ _ _ (eq-eqb _ _ c.if-label-place.true)) ∙ c.loop-label.invariant
-
-pub loop-label-preserved : goal.loop-label-preserved
-loop-label-preserved c =
-    let e = name_at c.args.labels.now c.loop-label.label-index c.args.place c.label-item.result c.loop-label-test.true c.label-item.is in
-    sym (e ∙ pick_no _ _ _ (ne_eqb _ _ c.if-label-place.false)) ∙ c.loop-label.invariant
+pub returns-in_err-found : goal.returns-in_err-found
+returns-in_err-found c =
+    let k = c.args.place in
+    let h = name_is k c.args.labels.now c.find.result (find_from_yields_List (λ (l : Label). eqb l.place k) _ _ c.find.result c.find.ensures.ran (YieldsList-from_slice c.args.labels.now c.iter.ensures.rest) (λ x b q k. search (rules, tests))) in
+    search rules
 
 pub returns : goal.returns
-returns c = sym (name_end c.args.labels.now c.loop-label.label-index c.args.place c.loop-label-test.false) ∙ c.loop-label.invariant
+returns c =
+    let k = c.args.place in
+    let h = name_is k c.args.labels.now c.find.result (find_from_yields_List (λ (l : Label). eqb l.place k) _ _ c.find.result c.find.ensures.ran (YieldsList-from_slice c.args.labels.now c.iter.ensures.rest) (λ x b q k. search (rules, tests))) in
+    search rules

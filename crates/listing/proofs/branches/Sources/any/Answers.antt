@@ -1,18 +1,14 @@
-use Rattle.std.proofs.Common.{sym, ◌∙◌}
-use Rattle.listing.proofs.Turns.{branch_end, branch_here, branch_not_here}
+use Rattle.std.proofs.Common.{◌∙◌, rules, tests}
+use Rattle.std.proofs.lemmas.Iterator.{YieldsList-from_slice}
+use Rattle.std.proofs.lemmas.Iterator.Search.{any_from_yields_List}
+use Rattle.command.specs.Codes.{code}
+use Rattle.command.specs.declared.code.Instr.{Instr}
+use Rattle.listing.specs.Branches.{is_branch}
+use Rattle.listing.proofs.Turns.{branch_any}
 use Rattle.listing.proofs.branches.Sources.any.Goals as goal
-
-pub returns-then-is_of : goal.returns-then-is_of
-returns-then-is_of c =
-    let e = branch_here c.args.self.now.branch c.args.self.now.program.now c.loop-instr.instr-index c.instr-item.result c.loop-instr-test.true c.instr-item.is c.if-is_of.ensures in
-    sym e ∙ c.loop-instr.invariant
-
-pub loop-instr-preserved : goal.loop-instr-preserved
-loop-instr-preserved c =
-    let e = branch_not_here c.args.self.now.branch c.args.self.now.program.now c.loop-instr.instr-index c.instr-item.result c.loop-instr-test.true c.instr-item.is c.if-is_of.ensures in
-    sym e ∙ c.loop-instr.invariant
 
 pub returns : goal.returns
 returns c =
-    sym (branch_end c.args.self.now.branch c.args.self.now.program.now c.loop-instr.instr-index c.loop-instr-test.false)
-    ∙ c.loop-instr.invariant
+    let b = c.args.self.now.branch in
+    any_from_yields_List (λ (i : Instr). is_branch b (code i)) _ _ c.any.result c.any.ensures.ran (YieldsList-from_slice c.args.self.now.program.now c.iter.ensures.rest) (λ x b q k. search (rules, tests))
+    ∙ branch_any b c.args.self.now.program.now
