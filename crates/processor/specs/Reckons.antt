@@ -1,8 +1,6 @@
 -- What a reckoning by numbers answers. Assumes nothing: these are definitions.
-use Rattle.std.specs.Prelude.{◌≡◌, ℕ, ◌≤◌, ◌&&◌, List, [], ◌∷◌, Some, None, Option, Ok, Err, Result, nat_lt}
+use Rattle.std.specs.Prelude.{ℕ, ◌&&◌, List, [], ◌∷◌, Ok, Err, Result, nat_lt}
 use Rattle.command.specs.Machine.{pick, reckoned}
-use Rattle.command.specs.declared.code.Op.{Op}
-use Rattle.command.specs.Codes.{op_number}
 use Rattle.processor.specs.declared.arith.ReckonError.{ReckonError}
 use Rattle.processor.specs.declared.arith.ReckonError.TheVariants.{NoSuchOp, TooLarge, ByZero}
 
@@ -22,8 +20,3 @@ refusal_number ByZero = 0
 
 unfoldable pub refusal_of : (k a b : ℕ) → ℕ
 refusal_of k a b = pick (nat_lt k 10) (pick (nat_lt a 4294967296 && nat_lt b 4294967296) 0 2) 1
-
--- the operation has that number; there is none from 10 on
-abbrev pub Numbered : ℕ → Option Op → Type 0
-Numbered n None = 10 ≤ n
-Numbered n (Some o) = op_number o ≡ n

@@ -3,7 +3,7 @@ ghost use Rattle.std.specs.Prelude.{◌≡◌, ◌≤◌, IfErr, MatchResult};
 ghost use Rattle.std.specs.Option.{option_to_list};
 ghost use Rattle.command.specs.Machine.{reckoned};
 ghost use Rattle.command.specs.Codes.{op_number};
-ghost use Rattle.processor.specs.Reckons.{reckon_reply, refusal_number, refusal_of, Numbered};
+ghost use Rattle.processor.specs.Reckons.{reckon_reply, refusal_number, refusal_of};
 
 use command::code::Op;
 
@@ -35,22 +35,10 @@ pub(crate) fn apply(op: Op, a: u32, b: u32) -> Option<u32>
     }
 }
 
-fn op_of(number: u64) -> Option<Op>
-    ensures { Numbered number result }
+fn op_of(number: u64) -> Result<Op, ReckonError>
+    ensures { MatchResult result (λ op. op_number op ≡ number) (λ e. (e ≡ ReckonError.NoSuchOp) × (10 ≤ number)) }
 {
-    match number {
-        0 => Some(Op::Sum),
-        1 => Some(Op::Difference),
-        2 => Some(Op::Product),
-        3 => Some(Op::Quotient),
-        4 => Some(Op::Remainder),
-        5 => Some(Op::And),
-        6 => Some(Op::Or),
-        7 => Some(Op::Either),
-        8 => Some(Op::Left),
-        9 => Some(Op::Right),
-        _ => None,
-    }
+    Op::try_from(number).map_err(|_| ReckonError::NoSuchOp)
 }
 
 fn word_of(number: u64) -> Result<u32, ReckonError>
@@ -64,7 +52,7 @@ pub fn reckon(op: u64, a: u64, b: u64) -> Result<u64, ReckonError>
     ensures reply { result ≡ reckon_reply op a b }
     ensures refused { IfErr result (λ e. refusal_number e ≡ refusal_of op a b) }
 {
-    let op = op_of(op).ok_or(ReckonError::NoSuchOp)?;
+    let op = op_of(op)?;
     let v = apply(op, word_of(a)?, word_of(b)?).ok_or(ReckonError::ByZero)?;
     Ok(u64::from(v))
 }

@@ -24,9 +24,7 @@ impl State {
     fn all_pass(&self, stop: &Break) -> bool
         ensures { (b : Base) (s : Model) → Like b self.now s → result ≡ every (test_holds s) (tests_of stop.now) }
     {
-        stop.tests[..stop.count as usize]
-            .iter()
-            .all(|t| self.passes(*t))
+        stop.tests().iter().all(|t| self.passes(*t))
     }
 
     // Did the step that came to this change the word?

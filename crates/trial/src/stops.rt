@@ -38,10 +38,8 @@ impl Moment {
     pub(crate) fn stops(&self, stop: &Break, memory: &Memory) -> bool
         ensures { (s t : Model) → Came self.now s t → Words memory.now.words.items t → result ≡ held_by s t (break_of stop.now) }
     {
-        // A break is handed over by value, with its tests and their count, so that none needs a heap.
-        let tests = &stop.tests[0..stop.count as usize];
         stop.place.is_none_or(|place| self.at == u32::from(place))
             && stop.changed.is_none_or(|a| self.changed(u64::from(a)))
-            && self.passes_all(tests, memory)
+            && self.passes_all(stop.tests(), memory)
     }
 }

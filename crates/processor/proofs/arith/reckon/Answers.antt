@@ -3,7 +3,7 @@ use Rattle.std.proofs.lemmas.Bool.{lt-ltb, le-ltb}
 use Rattle.std.specs.Option.{option_to_list}
 use Rattle.command.specs.Machine.{reckoned}
 use Rattle.command.specs.Codes.{op_number}
-use Rattle.processor.specs.Reckons.{reckon_reply, reply_of, refusal_number, refusal_of, Numbered}
+use Rattle.processor.specs.Reckons.{reckon_reply, reply_of, refusal_number, refusal_of}
 use Rattle.processor.specs.declared.arith.ReckonError.{ReckonError}
 use Rattle.processor.specs.declared.arith.ReckonError.TheVariants.{NoSuchOp, TooLarge, ByZero}
 use Rattle.processor.proofs.Ops.{op_below}
@@ -32,14 +32,13 @@ comes_to k a b v hk ha hb e = simp (lt-ltb k 10 hk, lt-ltb a _ ha, lt-ltb b _ hb
 
 pub returns-in_err-op : goal.returns-in_err-op
 returns-in_err-op c =
-    let h = none_fault c.op_of.result _ _ (sym c.in_err-op.ensures.value) in
-    let big = subst (Numbered c.args.op) h.0 c.op_of.ensures in
-    let r = refused c.from_residual.result _ _ (Replies c.args.op c.args.a c.args.b) h.1 c.from_residual.ensures.1 (no_op c.args.op c.args.a c.args.b big) in
+    let h = c.in_err-op.ensures in
+    let r = refused c.from_residual.result _ _ (Replies c.args.op c.args.a c.args.b) h.0 c.from_residual.ensures.1 (no_op c.args.op c.args.a c.args.b h.1) in
     record { reply = r.0; refused = r.1 }
 
 pub returns-in_err-word_of : goal.returns-in_err-word_of
 returns-in_err-word_of c =
-    let q : op_number c.in_ok-op.op ≡ c.args.op = subst (Numbered c.args.op) c.in_ok-op.ensures.ok_part c.op_of.ensures in
+    let q : op_number c.in_ok-op.op ≡ c.args.op = c.in_ok-op.ensures in
     let few : c.args.op < 10 = omega (arith, op_below c.in_ok-op.op) in
     let h = c.in_err-word_of.ensures in
     let r = refused c.from_residual-in_err-word_of.result _ _ (Replies c.args.op c.args.a c.args.b) h.0 c.from_residual-in_err-word_of.ensures.1
@@ -48,7 +47,7 @@ returns-in_err-word_of c =
 
 pub returns-in_err-word_of-2 : goal.returns-in_err-word_of-2
 returns-in_err-word_of-2 c =
-    let q : op_number c.in_ok-op.op ≡ c.args.op = subst (Numbered c.args.op) c.in_ok-op.ensures.ok_part c.op_of.ensures in
+    let q : op_number c.in_ok-op.op ≡ c.args.op = c.in_ok-op.ensures in
     let few : c.args.op < 10 = omega (arith, op_below c.in_ok-op.op) in
     let small : c.args.a < 4294967296 = omega (arith, c.in_ok-word_of.ensures) in
     let h = c.in_err-word_of-2.ensures in
@@ -58,7 +57,7 @@ returns-in_err-word_of-2 c =
 
 pub returns-in_err-v : goal.returns-in_err-v
 returns-in_err-v c =
-    let q : op_number c.in_ok-op.op ≡ c.args.op = subst (Numbered c.args.op) c.in_ok-op.ensures.ok_part c.op_of.ensures in
+    let q : op_number c.in_ok-op.op ≡ c.args.op = c.in_ok-op.ensures in
     let h = none_fault c.apply.result _ _ (sym c.in_err-v.ensures.value) in
     let e = sym (ap option_to_list h.0) ∙ c.apply.ensures in
     let t = by_zero (op_number c.in_ok-op.op) c.in_ok-word_of.field-0 c.in_ok-word_of-2.field-0 (op_below c.in_ok-op.op) (omega arith) (omega arith) e in
@@ -68,7 +67,7 @@ returns-in_err-v c =
 
 pub returns : goal.returns
 returns c =
-    let q : op_number c.in_ok-op.op ≡ c.args.op = subst (Numbered c.args.op) c.in_ok-op.ensures.ok_part c.op_of.ensures in
+    let q : op_number c.in_ok-op.op ≡ c.args.op = c.in_ok-op.ensures in
     let e = sym (ap option_to_list c.in_ok-v.ensures.ok_part) ∙ c.apply.ensures in
     let t = comes_to (op_number c.in_ok-op.op) c.in_ok-word_of.field-0 c.in_ok-word_of-2.field-0 c.in_ok-v.v (op_below c.in_ok-op.op) (omega arith) (omega arith) e in
     record { reply = ap Ok c.from.ensures ∙ (rw (q, c.in_ok-word_of.ensures, c.in_ok-word_of-2.ensures) at t); refused = tt }
