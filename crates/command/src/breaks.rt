@@ -18,6 +18,7 @@ pub struct Test {
 }
 
 // Holds after a step: at a place, or any if none is given; if the first `count` tests hold; if the step changed a word, or whatever if none is given.
+// Eight tests with their count, as a break is handed over by value, with no heap.
 #[derive(Clone, Copy, Debug, PartialEq, Eq)]
 pub struct Break {
     pub place: Option<u16>,

@@ -23,6 +23,7 @@ impl<B: Byte> Cursor<'_, B> {
         Some(first.number())
     }
 
+    // This, `below` and `up_to` keep a test each: one for all would take it as a closure, and how that reads as a ghost.
     pub(crate) fn byte(&mut self, limit: u64) -> Option<u64>
         ensures takes { Takes itself (byte (below limit) (left_in B.text self.old)) result (left_in B.text self.new) }
         ensures within { Within limit result }
