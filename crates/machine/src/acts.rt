@@ -16,6 +16,7 @@ pub enum Told {
     // So many bytes.
     Shows(u64),
     Done,
+    // An act too, as in the definition: each step tells one act, and no `Result` is unwrapped on the way.
     No(Refusal),
 }
 

@@ -84,6 +84,7 @@ impl Lent<'_> {
     {
         match phase {
             Phase::Ending => self.finish(),
+            // The two plans end differently: a match each is shorter than a function that is handed the end.
             Phase::Beginning => match beginning(self.memory[CURSOR]) {
                 Some(slot) => self.keep(slot),
                 None => self.finish(),
@@ -135,6 +136,7 @@ pub fn step(
 ) -> Told
     ensures { StepSays memory.old kind a b c told.now out.old (step_fits memory.old kind out.old) result memory.new out.new }
 {
+    // What is told is no `Option`, so `?` has no place here; a match of all three would forget that what is lent stays.
     let Some(event) = event_from(kind, a, b, c, told) else {
         return Told::No(Refusal::Unfit);
     };
