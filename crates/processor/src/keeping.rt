@@ -25,29 +25,16 @@ fn flush(items: &[u32], dirty: &[bool; 256], pages: &mut Pages)
     }
 }
 
-// Whether a page of the words may differ from the slot's.
-fn stale(dirty: &[bool; 256], pages: &Pages, slot: usize, p: usize) -> bool
-    requires slot { slot < 256 }
-    requires page { p < 256 }
-    ensures { result ≡ false → (slice_index_or dirty.now p true ≡ false) × (slice_index pages.now.tables.items (slot * 256 + p) ≡ slice_index pages.now.tables.items (65536 + p)) }
-{
-    if dirty[p] {
-        return true;
-    }
-    pages.tables[slot * 256 + p] != pages.tables[PRESENT * 256 + p]
-}
-
-// The words become the slot's. While this runs the ghost fields of `Words` don't hold, so it is no method of it. A loop over `dirty` itself takes 40 % longer.
+// The words become the slot's. While this runs the ghost fields of `Words` don't hold, so it is no method of it.
 fn restore(items: &mut [u32], dirty: &[bool; 256], pages: &Pages, slot: u8)
     requires full { length items.old ≡ 65536 }
     requires clean { Clean items.old dirty.now pages.now.cells.items pages.now.tables.items }
     ensures { (a : ℕ) → a < 65536 → slice_index items.new a ≡ held_word pages.now slot a }
 {
-    let slot = slot as usize;
-    for p in 0..256 {
-        if stale(dirty, pages, slot, p) {
-            let page = pages.tables[slot * 256 + p] as usize;
-            copy_page(items, p, pages.cells.as_slice(), page);
+    for (p, written) in dirty.iter().enumerate() {
+        let page = pages.tables[slot as usize * 256 + p];
+        if *written || page != pages.tables[PRESENT * 256 + p] {
+            copy_page(items, p, pages.cells.as_slice(), page as usize);
         }
     }
 }
