@@ -2,7 +2,7 @@
 ghost use Rattle.std.specs.Prelude.{◌≡◌, false, None};
 
 use crate::place::Place;
-use crate::refusal::Refusal;
+use crate::refusal::Refused;
 use crate::showing::Showing;
 use crate::shown::numbers_of;
 use crate::tables::Registers;
@@ -12,7 +12,7 @@ use console::files::program_of;
 use console::help;
 use console::input::Input;
 use console::tables::{Row, Table};
-use driver::{Debugger, Outcome};
+use driver::{Debugger, SayError};
 use prompt::requests::{Numbers, Request, read_request};
 use std::alloc::AllocError;
 use std::io;
@@ -196,12 +196,12 @@ impl<P: Processor + Drop> Conversation<P> {
             return Ok(None);
         };
         match self.debugger.say(text.as_slice()) {
-            Outcome::Over { end: 0, steps } => {
+            Ok(steps) => {
                 self.stuck = false;
                 return Ok(Some(steps));
             }
-            Outcome::Over { end: number, .. } => rt.println(Refusal { command, number })?,
-            Outcome::NoMemory => {
+            Err(SayError::Refused { why, .. }) => rt.println(Refused { command, why })?,
+            Err(SayError::NoMemory) => {
                 self.stuck = true;
                 rt.println(BEGIN_ANEW)?;
             }

@@ -1,29 +1,29 @@
 // Refusals as the user sees them: a number, and a few words.
 use command::commands::{Command, Order};
+use driver::Refusal;
 use std::fmt;
 
+// A command that was refused, and why.
 #[derive(Clone, Copy)]
-pub struct Refusal {
+pub struct Refused {
     pub command: Command,
-    pub number: u64,
+    pub why: Refusal,
 }
 
-// Why a command was refused, by the number that it was refused with.
-fn reason(command: Command, number: u64) -> &'static str {
-    match (command, number) {
-        (_, 1) => "this is no command",
-        (_, 2) => "this command is not known yet",
-        (_, 3) => "there is none",
-        (Command::Give(_), 7) => "at most 65536 numbers can come in",
-        (Command::Order(Order::Break(_)), 7) => "there are 64 breaks already",
+fn reason(command: Command, why: Refusal) -> &'static str {
+    match (command, why) {
+        (_, Refusal::NoCommand) => "this is no command",
+        (_, Refusal::NotKnown) => "this command is not known yet",
+        (Command::Give(_), Refusal::Full) => "at most 65536 numbers can come in",
+        (Command::Order(Order::Break(_)), Refusal::Full) => "there are 64 breaks already",
         _ => "the reason has no words here",
     }
 }
 
-impl fmt::Display for Refusal {
+impl fmt::Display for Refused {
     fn fmt<W: fmt::Write>(&self, f: &mut fmt::Formatter<W>) -> fmt::Result {
-        let number = self.number;
-        let reason = reason(self.command, number);
+        let number = u64::from(self.why);
+        let reason = reason(self.command, self.why);
         write!(f, "refused {number}: {reason}")
     }
 }
