@@ -34,7 +34,7 @@ const BLANK: Break = Break {
     changed: None,
 };
 
-// What the breaks of a row are read into.
+// What the breaks of a row are read into: from a function of its own, since a proof cannot compute with such a literal.
 fn blanks() -> [Break; MOST_BREAKS] {
     [BLANK; MOST_BREAKS]
 }

@@ -40,7 +40,7 @@ fn answer(ending: Ending, steps: u64) -> Result<u64, SayError>
     }
 }
 
-// A row, by its length.
+// A row, by its length: lent mutably as an array, its Vec's length would not be proved to stay.
 fn whole(row: &[u64]) -> &[u64; ROW]
     requires { length row.now ≡ 65536 }
     ensures { result.now ≡ row.now }

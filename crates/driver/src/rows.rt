@@ -76,6 +76,7 @@ pub fn read_back<T: Spelled>(text: &[u64], slots: &mut [T]) -> Result<(), Ending
     Ok(())
 }
 
+// At breaks, for callers whose proof cannot compute the clause at a type with a ghost field.
 pub fn read_breaks(text: &[u64], breaks: &mut [Break]) -> Result<(), Ending>
     ensures { Filled result (so_many break (length breaks.old) text.now) (breaks_of breaks.new) }
 {

@@ -10,6 +10,7 @@ const LONGEST: usize = 65_536;
 #[derive(Drop)]
 pub struct Screen {
     text: Vec<u64>,
+    // A flag, since an empty text can be shown, and the room for one stays when none is.
     shown: bool,
     // Room for a text is there from the start.
     ghost wide: { 65536 ≤ vec_capacity text },
