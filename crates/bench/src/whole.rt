@@ -3,7 +3,7 @@ use anyhow::anyhow;
 use command::code::Instr;
 use command::commands::Order;
 use command::writing::{write, write_load};
-use driver::{Debugger, Outcome};
+use driver::Debugger;
 use machine::{CELLS, ROW, Told, step};
 use processor::emulator::Emulator;
 use std::time::Instant;
@@ -18,10 +18,9 @@ const NEXT: u64 = 3;
 
 // Steps that the processor made for a command.
 fn said(debugger: &mut Debugger<Emulator>, text: &[u64]) -> anyhow::Result<u64> {
-    match debugger.say(text) {
-        Outcome::Over { end: 0, steps } => Ok(steps),
-        _ => Err(anyhow!("the debugger refused")),
-    }
+    debugger
+        .say(text)
+        .map_err(|_| anyhow!("the debugger refused"))
 }
 
 pub fn through_the_debugger(rt: &HostRuntime, program: &[Instr]) -> anyhow::Result<()> {
