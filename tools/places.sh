@@ -19,7 +19,7 @@ in_src 'Result<[^<>]*, u(8|16|32|64)>|^ +(No|Looks|Refused|Over)\(|^ +(pub )?(re
     count '1d numbers for kinds and refusals'
 in_src 'fn [a-z_]+(<[^>]*>)?\(.*&mut .*\) -> (io::Result<|Result<)?bool|^ +(shown|stuck): bool' | count '1e flags: done or not, or beside a value'
 tools/twins.sh 6 | grep '^D' | count '2  pairs of places that repeat one another (tools/twins.sh)'
-in_src '^ *while |^ *for _?[a-z]+ in \(?[0-9a-z_A-Z.]+\.\.' | count '3  `while`, and `for` over a range of numbers'
+in_src '^ *while |^ *for [_a-z]+ in \(?[0-9a-z_A-Z.]+\.\.' | count '3  `while`, and `for` over a range of numbers'
 in_src 'fn (is|flag|words|spelled|number|numbered|number_of|fault_text|ending|op_of|unread|[a-z_]*_(number|numbered|named|name))\(' |
     count '4  equality, conversion and printing by hand'
 grep -rhoE '^ *requires.*' crates/*/src | sed -E 's/^ *requires( [a-z_]+)? //' | sort | uniq -c | awk '$1>=3' | count '5a facts that three or more `requires` state'
