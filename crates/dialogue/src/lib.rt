@@ -2,8 +2,8 @@
 #![tactic(auto)]
 
 pub mod conversation;
+pub mod listener;
 mod place;
 mod refusal;
 mod showing;
 mod shown;
-mod tables;
