@@ -6,6 +6,7 @@ use crate::help;
 use crate::input::Input;
 use crate::steered::Steered;
 use prompt::requests::{Numbers, Request, read_request};
+use std::alloc::Global;
 use std::io;
 use std::str::from_utf8;
 
@@ -62,7 +63,10 @@ impl<S: Steered + Drop> Conversation<S> {
             Request::Nothing | Request::Quit => Ok(()),
             Request::Repeat => self.repeat(rt),
             Request::Load(name) => self.load_named(rt, name),
-            Request::Give(numbers) => self.give(rt, numbers),
+            Request::Give(numbers) => match self.give(rt.alloc(), numbers) {
+                Ok(()) => Ok(()),
+                Err(refusal) => rt.println(refusal),
+            },
             Request::Forward(n) => self.forward(rt, n),
             Request::Where => self.steered.show_place(rt),
             Request::Registers => self.steered.show_registers(rt),
@@ -95,14 +99,9 @@ impl<S: Steered + Drop> Conversation<S> {
         }
     }
 
-    fn give(&mut self, rt: &HostRuntime, numbers: Numbers<'_>) -> io::Result<()> {
-        let Ok(more) = numbers.to_vec(rt.alloc()) else {
-            return rt.println("there is no memory left for that");
-        };
-        match self.steered.give(rt.alloc(), more.as_slice()) {
-            Ok(()) => Ok(()),
-            Err(refusal) => rt.println(refusal),
-        }
+    fn give(&mut self, heap: Global, numbers: Numbers<'_>) -> Result<(), S::Refusal> {
+        let more = numbers.to_vec(heap)?;
+        self.steered.give(heap, more.as_slice())
     }
 
     fn repeat(&mut self, rt: &HostRuntime) -> io::Result<()> {

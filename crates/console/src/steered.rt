@@ -1,11 +1,11 @@
 // What a conversation steers: a session, or another debugger.
 use command::code::Instr;
-use std::alloc::Global;
+use std::alloc::{AllocError, Global};
 use std::{fmt, io};
 
 pub trait Steered {
     // Why it did not do what it was told.
-    type Refusal: fmt::Display + Drop;
+    type Refusal: fmt::Display + From<AllocError> + Drop;
 
     // Begins anew with a program.
     fn load(&mut self, heap: Global, program: &[Instr]) -> Result<(), Self::Refusal>;

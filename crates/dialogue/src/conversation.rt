@@ -9,12 +9,5 @@ use target::processor::Processor;
 pub fn new<P: Processor + Drop>(debugger: Debugger<P>, echo: bool) -> Conversation<Listener<P>>
     ensures { (result.steered.debugger ≡ debugger) × (result.echo ≡ echo) × (result.last_move ≡ None) × (result.steered.stuck ≡ false) }
 {
-    Conversation {
-        steered: Listener {
-            debugger,
-            stuck: false,
-        },
-        echo,
-        last_move: None,
-    }
+    Conversation::new(Listener::new(debugger), echo)
 }

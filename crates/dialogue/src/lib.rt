@@ -2,7 +2,7 @@
 #![tactic(auto)]
 
 pub mod conversation;
-pub mod listener;
+mod listener;
 mod place;
 mod refusal;
 mod showing;

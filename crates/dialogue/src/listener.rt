@@ -1,4 +1,6 @@
 // A debugger as a conversation steers it: what it is told is spelled and said, and what it shows is printed.
+ghost use Rattle.std.specs.Prelude.{◌≡◌, false};
+
 use crate::place::Place;
 use crate::refusal::{Refused, Unsaid};
 use crate::showing::Showing;
@@ -15,13 +17,21 @@ use target::processor::Processor;
 
 #[derive(Drop)]
 pub struct Listener<P> {
-    pub debugger: Debugger<P>,
-    // There was no memory to go on: nothing is promised of the debugger until it begins anew. It is kept for that, so no case of an enum has
-    // more or less than the other.
-    pub stuck: bool,
+    debugger: Debugger<P>,
+    // There was no memory to go on: nothing is promised of the debugger until it begins anew. A flag, since it is kept for that all the same.
+    stuck: bool,
 }
 
 impl<P: Processor + Drop> Listener<P> {
+    pub fn new(debugger: Debugger<P>) -> Listener<P>
+        ensures { (result.debugger ≡ debugger) × (result.stuck ≡ false) }
+    {
+        Listener {
+            debugger,
+            stuck: false,
+        }
+    }
+
     // Says a command, spelled by a text if there was memory for it, and answers how many steps it made.
     fn say(&mut self, command: Command, text: Result<Vec<u64>, AllocError>) -> Result<u64, Unsaid> {
         let begins = matches!(command, Command::Load(_));
