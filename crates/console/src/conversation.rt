@@ -4,30 +4,29 @@ ghost use Rattle.std.specs.Prelude.{◌≡◌, None};
 use crate::files::program_of;
 use crate::help;
 use crate::input::Input;
-use crate::tables::{Registers, Row, Table};
+use crate::steered::Steered;
 use prompt::requests::{Numbers, Request, read_request};
-use session::debugger::{Refusal, Session};
+use std::alloc::Global;
 use std::io;
 use std::str::from_utf8;
-use target::processor::Processor;
 
 // Many steps take long: after so many it says how far it is.
 const STEPS_BETWEEN_SIGNS: u64 = 250_000_000;
 
 #[derive(Drop)]
-pub struct Conversation<P> {
-    session: Session<P>,
-    echo: bool,
+pub struct Conversation<S> {
+    pub steered: S,
+    pub echo: bool,
     // How far the last forward was to go.
-    last_move: Option<u64>,
+    pub last_move: Option<u64>,
 }
 
-impl<P: Processor + Drop> Conversation<P> {
-    pub fn new(session: Session<P>, echo: bool) -> Conversation<P>
-        ensures { (result.session ≡ session) × (result.echo ≡ echo) × (result.last_move ≡ None) }
+impl<S: Steered + Drop> Conversation<S> {
+    pub fn new(steered: S, echo: bool) -> Conversation<S>
+        ensures { (result.steered ≡ steered) × (result.echo ≡ echo) × (result.last_move ≡ None) }
     {
         Conversation {
-            session,
+            steered,
             echo,
             last_move: None,
         }
@@ -64,12 +63,15 @@ impl<P: Processor + Drop> Conversation<P> {
             Request::Nothing | Request::Quit => Ok(()),
             Request::Repeat => self.repeat(rt),
             Request::Load(name) => self.load_named(rt, name),
-            Request::Give(numbers) => self.give(rt, numbers),
+            Request::Give(numbers) => match self.give(rt.alloc(), numbers) {
+                Ok(()) => Ok(()),
+                Err(refusal) => rt.println(refusal),
+            },
             Request::Forward(n) => self.forward(rt, n),
-            Request::Where => self.show_place(rt),
-            Request::Registers => rt.println(Registers(self.session.registers())),
-            Request::Words(from, count) => self.show_words(rt, from, count),
-            Request::Outs(from, count) => self.show_outs(rt, from, count),
+            Request::Where => self.steered.show_place(rt),
+            Request::Registers => self.steered.show_registers(rt),
+            Request::Words(from, count) => self.steered.show_words(rt, from, count),
+            Request::Outs(from, count) => self.steered.show_outs(rt, from, count),
             Request::Help(topic) => help::show(rt, topic),
         }
     }
@@ -81,30 +83,25 @@ impl<P: Processor + Drop> Conversation<P> {
         }
     }
 
-    // Where there is no such program, the session stays with the one before.
+    // Where there is no such program, it stays with the one before.
     fn load(&mut self, rt: &HostRuntime, name: &str) -> io::Result<()> {
         let Some(assembly) = program_of(rt, name)? else {
             return Ok(());
         };
         let program = assembly.program.as_slice();
-        match self.session.load(program) {
+        match self.steered.load(rt.alloc(), program) {
             Ok(()) => {
                 let count = program.len();
                 let plural = if count == 1 { "" } else { "s" };
                 println!(rt; "{name}: {count} instruction{plural}")
             }
-            Err(refusal) => println!(rt; "{name}: {refusal}"),
+            Err(refusal) => self.steered.show_not_loaded(rt, name, refusal),
         }
     }
 
-    fn give(&mut self, rt: &HostRuntime, numbers: Numbers<'_>) -> io::Result<()> {
-        let Ok(more) = numbers.to_vec(rt.alloc()) else {
-            return rt.println(Refusal::NoMemory);
-        };
-        match self.session.give(more.as_slice()) {
-            Ok(()) => Ok(()),
-            Err(refusal) => rt.println(refusal),
-        }
+    fn give(&mut self, heap: Global, numbers: Numbers<'_>) -> Result<(), S::Refusal> {
+        let more = numbers.to_vec(heap)?;
+        self.steered.give(heap, more.as_slice())
     }
 
     fn repeat(&mut self, rt: &HostRuntime) -> io::Result<()> {
@@ -114,50 +111,21 @@ impl<P: Processor + Drop> Conversation<P> {
         }
     }
 
-    // Goes on, and says now and then how far it is.
+    // Goes on part by part, says now and then how far it is, and shows where it came to.
     fn forward(&mut self, rt: &HostRuntime, n: u64) -> io::Result<()> {
         self.last_move = Some(n);
         let mut left = n;
         while left > 0 {
             let part = left.min(STEPS_BETWEEN_SIGNS);
-            match self.session.forward(part) {
-                Ok(by) if by == part => left -= part,
-                Ok(_) => break,
-                Err(refusal) => {
-                    rt.println(refusal)?;
-                    break;
-                }
+            match self.steered.forward(rt.alloc(), part) {
+                Ok(by) if by < part => break,
+                Ok(_) => left -= part,
+                Err(refusal) => return self.steered.show_not_gone(rt, refusal),
             }
-            self.show_sign(rt, left)?;
+            if left > 0 {
+                eprintln!(rt; "{left} steps to go")?;
+            }
         }
-        self.show_place(rt)
-    }
-
-    fn show_sign(&self, rt: &HostRuntime, left: u64) -> io::Result<()> {
-        if left == 0 {
-            return Ok(());
-        }
-        eprintln!(rt; "{left} steps to go")
-    }
-
-    fn show_place(&self, rt: &HostRuntime) -> io::Result<()> {
-        rt.println(self.session.place())
-    }
-
-    fn show_words(&self, rt: &HostRuntime, from: u64, count: u64) -> io::Result<()> {
-        match self.session.words(rt.alloc(), from, count) {
-            Ok(words) => rt.println(Table {
-                from,
-                words: words.as_slice(),
-            }),
-            Err(refusal) => rt.println(refusal),
-        }
-    }
-
-    fn show_outs(&self, rt: &HostRuntime, from: u64, count: u64) -> io::Result<()> {
-        match self.session.outs(rt.alloc(), from, count) {
-            Ok(outs) => rt.println(Row(outs.as_slice())),
-            Err(refusal) => rt.println(refusal),
-        }
+        self.steered.show_place(rt)
     }
 }

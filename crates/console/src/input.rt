@@ -28,7 +28,8 @@ impl Input {
         })
     }
 
-    // Asks for a line and reads it; false at the end of the input.
+    // Asks for a line and reads it; false at the end of the input. The line is not answered but read by `text`: where a slice is lent out of a
+    // `&mut`, clauses have no value of it after the call.
     pub fn next_line(&mut self, rt: &HostRuntime) -> io::Result<bool>
         ensures echo { self.new.echo ≡ self.old.echo }
     {

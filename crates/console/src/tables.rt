@@ -6,7 +6,7 @@ const PER_LINE: usize = 8;
 
 // Registers in four lines.
 #[derive(Clone, Copy)]
-pub struct Registers(pub [u32; 16]);
+pub struct Registers<'a, T>(pub &'a [T]);
 
 // Numbers on one line.
 #[derive(Clone, Copy)]
@@ -19,7 +19,7 @@ pub struct Table<'a> {
     pub words: &'a [u64],
 }
 
-impl fmt::Display for Registers {
+impl<T: fmt::Display> fmt::Display for Registers<'_, T> {
     fn fmt<W: fmt::Write>(&self, f: &mut fmt::Formatter<W>) -> fmt::Result {
         for (i, value) in self.0.iter().enumerate() {
             if i > 0 {

@@ -2,8 +2,8 @@
 #![tactic(auto)]
 
 pub mod conversation;
+mod listener;
 mod place;
 mod refusal;
 mod showing;
 mod shown;
-mod tables;

@@ -24,12 +24,7 @@ impl Place {
         };
         let why = match *number {
             0 => None,
-            1 => Some(Why::Halted),
-            2 => Some(Why::Waits),
-            11 => Some(Why::NoInstr),
-            12 => Some(Why::NoWord),
-            13 => Some(Why::ByZero),
-            _ => return None,
+            number => Some(Why::try_from(number).ok()?),
         };
         Some(Place {
             time: *time,
@@ -39,23 +34,14 @@ impl Place {
     }
 }
 
-// What stands behind the place.
-fn ending(why: Option<Why>) -> &'static str {
-    match why {
-        None => "",
-        Some(Why::Halted) => " halted",
-        Some(Why::Waits) => " waits",
-        Some(Why::NoInstr) => " wrong 1",
-        Some(Why::NoWord) => " wrong 2",
-        Some(Why::ByZero) => " wrong 3",
-    }
-}
-
 impl fmt::Display for Place {
     fn fmt<W: fmt::Write>(&self, f: &mut fmt::Formatter<W>) -> fmt::Result {
         let time = self.time;
         let at = self.at;
-        let ending = ending(self.why);
-        write!(f, "{time} at {at}{ending}")
+        write!(f, "{time} at {at}")?;
+        match self.why {
+            None => Ok(()),
+            Some(why) => write!(f, " {why}"),
+        }
     }
 }

@@ -18,6 +18,7 @@ pub enum Showing {
 }
 
 impl Showing {
+    #[tactic(auto, using(crate::proofs::Turns::forward_so, crate::proofs::Turns::back_so, crate::proofs::Turns::run_so, crate::proofs::Turns::rerun_so, crate::proofs::Turns::changer_so, crate::proofs::Turns::break_so, crate::proofs::Turns::drop_so, crate::proofs::Turns::where_so, crate::proofs::Turns::registers_so, crate::proofs::Turns::words_so, crate::proofs::Turns::outs_so))]
     pub fn of(order: Order) -> Showing
         ensures { ShownSo order result }
     {
