@@ -10,8 +10,8 @@ ghost use Rattle.driver.specs.declared.refusal.Refusal.TheVariants.{Fault as AFa
 use crate::event::{Ending, Event, FAULT, number_of};
 use crate::rows::{read_back, read_breaks};
 use crate::screen::Screen;
-use command::breaks::{Break, Subject, Test};
-use command::code::{Comparison, Instr};
+use command::breaks::{BLANK_TEST, Break};
+use command::code::Instr;
 use machine::{Look, ROW, Told};
 use target::answers::Fault;
 use target::processor::Processor;
@@ -20,12 +20,6 @@ use target::processor::Processor;
 pub const MOST: usize = 4_096;
 
 const MOST_BREAKS: usize = 64;
-
-const BLANK_TEST: Test = Test {
-    subject: Subject::Word(0),
-    comparison: Comparison::Equal,
-    value: 0,
-};
 
 const BLANK: Break = Break {
     place: None,
