@@ -20,6 +20,7 @@ pub mod Readers
 pub mod Digits
 pub mod Spellings
 pub mod Texts
+pub mod FirstBytes
 pub mod Many
 pub mod Whole
 pub mod ToldRows

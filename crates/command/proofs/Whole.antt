@@ -5,13 +5,14 @@ use Rattle.std.specs.Result.{IsErrAnd}
 use Rattle.command.specs.Told.{Reads}
 use Rattle.command.specs.declared.commands.Command.{Command}
 use Rattle.command.specs.declared.reading.NoCommand.{NoCommand}
-use Rattle.command.specs.Reader.{nothing, got, bind, first, one_of, command_ways, command, all_of, none, read_command, Says}
+use Rattle.command.specs.Reader.{nothing, got, bind, first, byte, below, one_of, command_ways, command, all_of, none, read_command, Says}
+use Rattle.command.proofs.FirstBytes.{no_byte}
 use Rattle.command.proofs.Texts.{text_none}
 use Rattle.command.proofs.Spellings.{read_back, says_none}
 
-pub command_none : (t : List ℕ) → first t ≡ nothing → command t ≡ nothing
+pub command_none : (t : List ℕ) → byte (below 256) t ≡ nothing → command t ≡ nothing
 unfolding command
-command_none t e = ap (λ g. bind g (one_of command_ways)) e
+command_none t e = no_byte command_ways refl t e
 
 pub command_at : (t : List ℕ) {k : ℕ} {u : List ℕ} → first t ≡ got k u → command t ≡ one_of command_ways k u
 unfolding command

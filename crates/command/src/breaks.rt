@@ -17,6 +17,13 @@ pub struct Test {
     pub value: u32,
 }
 
+// What fills room for tests that are not given.
+pub const BLANK_TEST: Test = Test {
+    subject: Subject::Word(0),
+    comparison: Comparison::Equal,
+    value: 0,
+};
+
 // Holds after a step: at a place, or any if none is given; if the first `count` tests hold; if the step changed a word, or whatever if none is given.
 // Eight tests with their count, as a break is handed over by value, with no heap.
 #[derive(Clone, Copy, Debug, PartialEq, Eq)]

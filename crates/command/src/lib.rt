@@ -4,7 +4,9 @@
 pub mod breaks;
 pub mod byte;
 pub mod code;
+mod command_kinds;
 pub mod commands;
+mod instruction_kinds;
 pub mod numbered;
 pub mod reading;
 mod spelled;

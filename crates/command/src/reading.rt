@@ -6,6 +6,9 @@ ghost use Rattle.command.specs.Told.{listed, meant, told, Counted, Reads};
 
 use crate::byte::Byte;
 use crate::code::Instr;
+use crate::command_kinds::{
+    BACK, BREAK, CHANGER, DROP, FORWARD, GIVE, LOAD, OUTS, REGISTERS, RERUN, RUN, WHERE, WORDS,
+};
 use crate::commands::{Command, Order};
 use crate::reading::parts::PLACES;
 use crate::spelled::Spelled;
@@ -53,26 +56,26 @@ impl<B: Byte> Cursor<'_, B> {
     }
 
     // What follows the first byte, by that byte.
-    fn order_of(&mut self, kind: u64) -> Option<Order>
+    fn order_of(&mut self, kind: u8) -> Option<Order>
         ensures { Takes meant (one_of order_ways kind (left_in B.text self.old)) result (left_in B.text self.new) }
     {
         match kind {
-            3 => Some(Order::Forward(self.steps()?)),
-            4 => Some(Order::Back(self.steps()?)),
-            5 => Some(Order::Run(self.steps()?)),
-            6 => Some(Order::Rerun(self.steps()?)),
-            7 => Some(Order::Changer(self.below(PLACES)?)),
-            8 => Some(Order::Break(self.stop()?)),
-            9 => Some(Order::Drop(self.any_number()?)),
-            10 => Some(Order::Where),
-            11 => Some(Order::Registers),
-            12 => {
+            FORWARD => Some(Order::Forward(self.steps()?)),
+            BACK => Some(Order::Back(self.steps()?)),
+            RUN => Some(Order::Run(self.steps()?)),
+            RERUN => Some(Order::Rerun(self.steps()?)),
+            CHANGER => Some(Order::Changer(self.below(PLACES)?)),
+            BREAK => Some(Order::Break(self.stop()?)),
+            DROP => Some(Order::Drop(self.any_number()?)),
+            WHERE => Some(Order::Where),
+            REGISTERS => Some(Order::Registers),
+            WORDS => {
                 Some(Order::Words {
                     from: self.below(PLACES)?,
                     count: self.up_to(MOST)?,
                 })
             }
-            13 => {
+            OUTS => {
                 Some(Order::Outs {
                     from: self.any_number()?,
                     count: self.up_to(MOST)?,
@@ -82,14 +85,13 @@ impl<B: Byte> Cursor<'_, B> {
         }
     }
 
-    // What follows the first byte, by that byte.
-    fn command_of(&mut self, kind: u64) -> Option<Command>
+    fn command_of(&mut self, kind: u8) -> Option<Command>
         ensures takes { Takes (told (left_in B.text self.old)) (one_of command_ways kind (left_in B.text self.old)) result (left_in B.text self.new) }
         ensures counted { Counted (left_in B.text self.old) result }
     {
         match kind {
-            1 => Some(Command::Load(self.list::<Instr>()?)),
-            2 => Some(Command::Give(self.list::<u32>()?)),
+            LOAD => Some(Command::Load(self.list::<Instr>()?)),
+            GIVE => Some(Command::Give(self.list::<u32>()?)),
             _ => Some(Command::Order(self.order_of(kind)?)),
         }
     }
@@ -100,7 +102,7 @@ pub fn read(text: &[u64]) -> Result<Command, NoCommand>
     ensures { Reads text.now result }
 {
     let mut cursor = Cursor { rest: text };
-    let kind = cursor.first().ok_or(NoCommand)?;
+    let kind = cursor.kind().ok_or(NoCommand)?;
     let command = cursor.command_of(kind).ok_or(NoCommand)?;
     if cursor.rest.is_empty() {
         Ok(command)

@@ -8,6 +8,9 @@ ghost use Rattle.command.specs.Written.{Puts, program_spelled};
 
 use crate::byte::Byte;
 use crate::code::Instr;
+use crate::command_kinds::{
+    BACK, BREAK, CHANGER, DROP, FORWARD, GIVE, LOAD, OUTS, REGISTERS, RERUN, RUN, WHERE, WORDS,
+};
 use crate::commands::Order;
 use crate::spelled::Spelled;
 use crate::writing::parts::{put, put_with};
@@ -52,20 +55,20 @@ fn put_order(out: &mut Vec<u64>, order: Order) -> Result<(), AllocError>
     ensures { Puts out.old.items (spelled (meant order)) result out.new.items }
 {
     match order {
-        Order::Forward(steps) => put_with(out, &[3], steps),
-        Order::Back(steps) => put_with(out, &[4], steps),
-        Order::Run(steps) => put_with(out, &[5], steps),
-        Order::Rerun(steps) => put_with(out, &[6], steps),
-        Order::Changer(word) => put_with(out, &[7], word),
+        Order::Forward(steps) => put_with(out, &[FORWARD], steps),
+        Order::Back(steps) => put_with(out, &[BACK], steps),
+        Order::Run(steps) => put_with(out, &[RUN], steps),
+        Order::Rerun(steps) => put_with(out, &[RERUN], steps),
+        Order::Changer(word) => put_with(out, &[CHANGER], word),
         Order::Break(stop) => {
-            put(out, &[8])?;
+            put(out, &[BREAK])?;
             put_break(out, stop)
         }
-        Order::Drop(number) => put_with(out, &[9], number),
-        Order::Where => put(out, &[10]),
-        Order::Registers => put(out, &[11]),
-        Order::Words { from, count } => put_two(out, 12, from, count),
-        Order::Outs { from, count } => put_two(out, 13, from, count),
+        Order::Drop(number) => put_with(out, &[DROP], number),
+        Order::Where => put(out, &[WHERE]),
+        Order::Registers => put(out, &[REGISTERS]),
+        Order::Words { from, count } => put_two(out, WORDS, from, count),
+        Order::Outs { from, count } => put_two(out, OUTS, from, count),
     }
 }
 
@@ -90,7 +93,7 @@ pub fn write_load(heap: Global, program: &[Instr]) -> Result<Vec<u64>, AllocErro
     ensures { IfOk result (λ text. text.items ≡ spelled (load (codes program.now))) }
 {
     let mut text = Vec::new(heap);
-    put(&mut text, &[1])?;
+    put(&mut text, &[LOAD])?;
     put_list(&mut text, program)?;
     Ok(text)
 }
@@ -99,7 +102,7 @@ pub fn write_give(heap: Global, numbers: &[u32]) -> Result<Vec<u64>, AllocError>
     ensures { IfOk result (λ text. text.items ≡ spelled (give numbers.now)) }
 {
     let mut text = Vec::new(heap);
-    put(&mut text, &[2])?;
+    put(&mut text, &[GIVE])?;
     put_list(&mut text, numbers)?;
     Ok(text)
 }

@@ -1,6 +1,7 @@
 -- What was looked at, at the front of a row.
-use Rattle.std.proofs.Common.{◌≡◌, ℕ, zero, suc, ◌+◌, ◌<◌, ◌≤◌, Bool, true, false, List, [], ◌∷◌, ◌++◌, length, get_or, take, drop, set, Ok, Err, Result, replicate, sym, refl, ap, ◌∙◌, subst, arith}
-use Rattle.std.proofs.lemmas.List.{take_more_set, take_more, length-take, length-replicate, length-drop, take_all}
+use Rattle.std.proofs.Common.{◌≡◌, ℕ, zero, suc, ◌+◌, ◌<◌, ◌≤◌, Bool, true, false, List, [], ◌∷◌, ◌++◌, length, take, drop, set, Ok, Err, Result, replicate, sym, refl, ap, ◌∙◌, subst, arith}
+use Rattle.std.proofs.Math.Seq.{take-append_seam}
+use Rattle.std.proofs.lemmas.List.{length-take, length-replicate, length-drop, take_all}
 use Rattle.std.specs.Result.{OkIff, result_ok}
 use Rattle.std.proofs.lemmas.Bool.{lt-ltb, le-ltb}
 use Rattle.std.proofs.lemmas.Result.{OkIff-at_ok, OkIff-at_err}
@@ -15,9 +16,9 @@ two_set [] a b h = absurd (omega (arith, h))
 two_set (x ∷ []) a b h = absurd (omega (arith, h))
 two_set (x ∷ y ∷ xs) a b h = refl
 
--- one more of a list copied
-pub copied_more : (xs ys : List ℕ) (i : ℕ) → i < length xs → i < length ys → take i xs ≡ take i ys → take (i + 1) (set xs i (get_or ys i 0)) ≡ take (i + 1) ys
-copied_more xs ys i a b e = take_more_set xs i (get_or ys i 0) a ∙ (ap (λ l. l ++ get_or ys i 0 ∷ []) e ∙ sym (take_more ys i 0 b))
+-- a list copied to the front of a row
+pub copied_front : (n : ℕ) (xs rest ys : List ℕ) → length xs ≡ n → xs ≡ ys → take n (xs ++ rest) ≡ ys
+copied_front n xs rest ys h e = ap (λ k. take k (xs ++ rest)) (sym h) ∙ (take-append_seam xs rest ∙ e)
 
 pub front_length : {A : Type 0} (n : ℕ) (xs : List A) → n ≤ length xs → length (take n xs) ≡ n
 front_length n xs h = let l = length-take n xs in omega arith

@@ -10,8 +10,8 @@ ghost use Rattle.driver.specs.declared.refusal.Refusal.TheVariants.{Fault as AFa
 use crate::event::{Ending, Event, FAULT, number_of};
 use crate::rows::{read_back, read_breaks};
 use crate::screen::Screen;
-use command::breaks::{Break, Subject, Test};
-use command::code::{Comparison, Instr};
+use command::breaks::{BLANK_TEST, Break};
+use command::code::Instr;
 use machine::{Look, ROW, Told};
 use target::answers::Fault;
 use target::processor::Processor;
@@ -20,12 +20,6 @@ use target::processor::Processor;
 pub const MOST: usize = 4_096;
 
 const MOST_BREAKS: usize = 64;
-
-const BLANK_TEST: Test = Test {
-    subject: Subject::Word(0),
-    comparison: Comparison::Equal,
-    value: 0,
-};
 
 const BLANK: Break = Break {
     place: None,
@@ -50,6 +44,7 @@ fn within(count: u64, most: usize) -> Result<usize, Ending>
     Ok(count)
 }
 
+// Starting and feeding stay two functions, as keeping and taking up do: each calls another method of the processor.
 fn start<P: Processor>(p: &mut P, count: u64, row: &[u64; ROW]) -> Result<Event, Ending>
     ensures done { (seen : List ℕ) → Serves (Starts count) row.now (P.like p.old) result (P.room p.new) (P.like p.new) seen }
     ensures sound { SoundHeard result 4096 }
@@ -79,6 +74,7 @@ fn go<P: Processor>(p: &mut P, n: u64, row: &[u64; ROW]) -> Result<Event, Ending
     let mut breaks = blanks();
     let breaks = &mut breaks[..within(row[0], MOST_BREAKS)?];
     read_breaks(&row[1..], breaks)?;
+    // Only here does a lack of memory end the run in a way of its own.
     match p.goes(n, breaks) {
         Ok(came) => Ok(Event::Came(came)),
         Err(Fault::NoMemory) => Err(Ending::NoMemory),
@@ -102,6 +98,7 @@ fn take_up<P: Processor>(p: &mut P, slot: u64, row: &[u64; ROW]) -> Result<Event
     Ok(Event::Next)
 }
 
+// The four looks stay apart: each calls another method of the processor.
 fn look_at_registers<P: Processor>(
     p: &P,
     row: &[u64; ROW],
@@ -110,10 +107,8 @@ fn look_at_registers<P: Processor>(
     ensures done { Serves (Looks looked.Registers) row.now (P.like p.now) result (P.room p.now) (P.like p.now) seen.new }
     ensures sound { SoundHeard result 4096 }
 {
-    let registers = p.registers();
-    for (i, register) in registers.iter().enumerate() {
-        seen[i] = u64::from(*register);
-    }
+    let registers = p.registers().map(u64::from);
+    seen[..registers.len()].copy_from_slice(&registers);
     Ok(Event::Saw(registers.len()))
 }
 
@@ -178,7 +173,7 @@ fn show(screen: &mut Screen, count: u64, row: &[u64; ROW]) -> Result<Event, Endi
     ensures { Shown result count row.now (showed screen.old.shown screen.old.text.items) (showed screen.new.shown screen.new.text.items) }
 {
     let count = within(count, ROW)?;
-    screen.show(&row[..count]).ok_or(Ending::ShownTwice)?;
+    screen.show(&row[..count])?;
     Ok(Event::Next)
 }
 

@@ -48,7 +48,7 @@ fn whole(row: &[u64]) -> &[u64; ROW]
     row.as_array().unwrap()
 }
 
-// Turn after turn: an event, a step, and its act.
+// Turn after turn: an event, a step, and its act. Memory and row are slices, as the machine's `step` takes them.
 fn carry_out<P: Processor>(
     p: &mut P,
     memory: &mut [u64],
@@ -63,7 +63,7 @@ fn carry_out<P: Processor>(
     let mut seen = [0; MOST];
     let mut event = Event::Said;
     let mut steps: u64 = 0;
-    for turn in 0..u64::MAX {
+    for _ in 0..u64::MAX {
         let told = tell(memory, event, text, &seen, row);
         match carry(p, screen, told, whole(row), &mut seen) {
             Ok(next) => {
@@ -94,8 +94,8 @@ impl<P: Processor + Drop> Debugger<P> {
         })
     }
 
-    // Something is said, in bytes, and the steps are answered that the processor made. From a session that stands for a plain debugger, the answer is the plain debugger's, within the steps granted,
-    // and the session stands for that one.
+    // Something is said, in bytes, and the steps are answered that the processor made. From a session that stands for a plain debugger,
+    // the answer is the plain debugger's, within the steps granted, and the session stands for that one.
     pub fn say(&mut self, text: &[u64]) -> Result<u64, SayError>
         ensures went { Went (P.like self.old.processor) self.old.memory.items [] text.now result (P.room self.new.processor) (P.like self.new.processor) self.new.memory.items (showed self.new.screen.shown self.new.screen.text.items) }
         ensures answered { (left : ℕ) (known : Command → Bool) (w : Plain) → Stands (suc left) known (P.like self.old.processor) self.old.memory.items w → Answered left known w text.now result (P.room self.new.processor) (P.like self.new.processor) self.new.memory.items (showed self.new.screen.shown self.new.screen.text.items) }

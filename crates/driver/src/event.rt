@@ -17,7 +17,7 @@ pub enum Event {
     Said,
     // How far the processor came.
     Came(Came),
-    // So many numbers were looked at.
+    // So many numbers were looked at; they stand at the front of the array that all turns share.
     Saw(usize),
     // The last act is done.
     Next,
@@ -26,7 +26,7 @@ pub enum Event {
 // Why no event comes of an act.
 #[derive(Clone, Copy, Debug, PartialEq, Eq)]
 pub enum Ending {
-    // The command is done.
+    // The command is done: an error too, since it ends the loop of turns, and `?` hands it on.
     Done,
     Refused(Refusal),
     // The processor has no memory for what may go out.
@@ -73,6 +73,7 @@ pub fn tell(memory: &mut [u64], event: Event, text: &[u64], seen: &[u64], row: &
     ensures memory { memory.new ≡ (own.step memory.old (meant event text.now seen.now)).memory }
     ensures told { ActTold (own.step memory.old (meant event text.now seen.now)).act result row.old row.new }
 {
+    // The machine's entry takes its events by the numbers 0 to 3.
     match event {
         Event::Said => step(memory, 0, 0, 0, 0, text, row),
         Event::Came(came) => step(

@@ -18,7 +18,7 @@ pub enum Refusal {
     Fault,
 }
 
-// Why no steps are answered.
+// Why a command is not done: it is refused, or memory ended.
 #[derive(Clone, Copy, Debug, PartialEq, Eq)]
 pub enum SayError {
     // Refused, after the steps that the processor made.

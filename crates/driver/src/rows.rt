@@ -13,8 +13,8 @@ use command::breaks::Break;
 use command::code::Instr;
 use command::reading::Cursor;
 
-// What is spelled in a row, one behind the other.
-pub trait Spelled: Copy {
+// What a row holds, one behind the other. Not the trait of commands' lists: a row is only read, and holds a number as it is.
+pub trait InRow: Copy {
     ghost Plain: { Type 0 };
 
     ghost plain: { Self → Plain };
@@ -26,7 +26,7 @@ pub trait Spelled: Copy {
         ensures { Takes plain (reader (left cursor.old)) result (left cursor.new) };
 }
 
-impl Spelled for Instr {
+impl InRow for Instr {
     ghost Plain = { PlainInstr };
 
     ghost plain = { code };
@@ -38,7 +38,7 @@ impl Spelled for Instr {
     }
 }
 
-impl Spelled for Break {
+impl InRow for Break {
     ghost Plain = { PlainBreak };
 
     ghost plain = { break_of };
@@ -50,7 +50,7 @@ impl Spelled for Break {
     }
 }
 
-impl Spelled for u32 {
+impl InRow for u32 {
     ghost Plain = { ℕ };
 
     ghost plain = { itself };
@@ -66,7 +66,7 @@ impl Spelled for u32 {
 }
 
 // Fills `slots` from the front of a text; an act cannot be if it does not spell so many.
-pub fn read_back<T: Spelled>(text: &[u64], slots: &mut [T]) -> Result<(), Ending>
+pub fn read_back<T: InRow>(text: &[u64], slots: &mut [T]) -> Result<(), Ending>
     ensures { Filled result (so_many T.reader (length slots.old) text.now) (each T.plain slots.new) }
 {
     let mut cursor = Cursor { rest: text };

@@ -2,6 +2,7 @@
 ghost use Rattle.std.specs.Prelude.{◌≡◌, ◌≤◌, [], length, IfOk, vec_capacity};
 ghost use Rattle.driver.specs.Screens.{showed, seen_on, ShowsIt};
 
+use crate::event::Ending;
 use std::alloc::{AllocError, Global};
 
 // No text is longer than a row.
@@ -30,19 +31,19 @@ impl Screen {
         self.shown = false;
     }
 
-    // Shows a text; none if one is shown already.
-    pub fn show(&mut self, text: &[u64]) -> Option<()>
+    // Shows a text, unless one is shown already.
+    pub fn show(&mut self, text: &[u64]) -> Result<(), Ending>
         requires { length text.now ≤ 65536 }
         ensures { ShowsIt result (showed self.old.shown self.old.text.items) text.now (showed self.new.shown self.new.text.items) }
     {
         if self.shown {
-            return None;
+            return Err(Ending::ShownTwice);
         }
         self.text.clear();
         // There is room for the longest text.
         let _ = self.text.extend_from_slice(text);
         self.shown = true;
-        Some(())
+        Ok(())
     }
 
     pub fn text(&self) -> Option<&[u64]>

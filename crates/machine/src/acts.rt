@@ -1,6 +1,4 @@
 // What a step of the debugger tells the world outside to do, or why it refuses.
-ghost use Rattle.std.specs.Prelude.{◌≡◌};
-ghost use Rattle.machine.specs.Entry.{refusal_number};
 
 #[derive(Clone, Copy, Debug, PartialEq, Eq)]
 pub enum Told {
@@ -42,17 +40,4 @@ pub enum Refusal {
     Unknown,
     // No more can come in.
     Full,
-}
-
-impl From<Refusal> for u64 {
-    ghost from_gives = { λ why n. n ≡ refusal_number why };
-
-    fn from(why: Refusal) -> u64 {
-        match why {
-            Refusal::Unfit => 0,
-            Refusal::Unexpected => 1,
-            Refusal::Unknown => 2,
-            Refusal::Full => 7,
-        }
-    }
 }

@@ -12,7 +12,8 @@ pub enum Why {
     ByZero,
 }
 
-// How far it came, whether a break holds there, and why it does not go on, where it was stopped by that.
+// How far it came, whether a break holds there, and why it does not go on, where it was stopped by that. Both are told, as in the
+// definition's `came`.
 #[derive(Clone, Copy, Debug, PartialEq, Eq)]
 pub struct Came {
     pub by: u64,

@@ -32,6 +32,13 @@ impl<B: Byte> Cursor<'_, B> {
         if byte < limit { Some(byte) } else { None }
     }
 
+    // A byte that tells what follows.
+    pub(crate) fn kind(&mut self) -> Option<u8>
+        ensures { Takes itself (byte (below 256) (left_in B.text self.old)) result (left_in B.text self.new) }
+    {
+        Some(self.byte(256)? as u8)
+    }
+
     // A number of eight bytes, the highest first.
     pub fn number(&mut self) -> Option<u64>
         ensures { Takes itself (bytes 8 0 (left_in B.text self.old)) result (left_in B.text self.new) }

@@ -6,17 +6,11 @@ ghost use Rattle.command.specs.Breaks.{test_of, break_of};
 ghost use Rattle.command.specs.Reader.{place, subject, test, so_many, counted, break};
 ghost use Rattle.command.specs.Taken.{left_in, Takes, subject_of};
 
-use crate::breaks::{Break, Subject, Test};
+use crate::breaks::{BLANK_TEST, Break, Subject, Test};
 use crate::byte::Byte;
-use crate::code::{Comparison, Reg};
+use crate::code::Reg;
 use crate::reading::cursor::Cursor;
 use crate::reading::parts::REGISTERS;
-
-const BLANK: Test = Test {
-    subject: Subject::Word(0),
-    comparison: Comparison::Equal,
-    value: 0,
-};
 
 impl<B: Byte> Cursor<'_, B> {
     fn subject(&mut self) -> Option<Subject>
@@ -46,7 +40,7 @@ impl<B: Byte> Cursor<'_, B> {
         requires { count ≤ 8 }
         ensures { Takes (λ ts. each test_of (take count ts)) (so_many test count (left_in B.text self.old)) result (left_in B.text self.new) }
     {
-        let mut tests = [BLANK; 8];
+        let mut tests = [BLANK_TEST; 8];
         for test in &mut tests[..count as usize] {
             *test = self.test()?;
         }

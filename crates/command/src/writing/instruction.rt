@@ -6,6 +6,9 @@ ghost use Rattle.command.specs.Written.{Puts};
 
 use crate::byte::Byte;
 use crate::code::Instr;
+use crate::instruction_kinds::{
+    CALL, COPY, HALT, IN, JUMP, JUMP_IF, LOAD, OUT, READ, RECKON, RETURN, WRITE,
+};
 use crate::writing::parts::{put, put_with};
 use std::alloc::AllocError;
 
@@ -13,29 +16,29 @@ pub(crate) fn put_instr<B: Byte>(out: &mut Vec<B>, instr: Instr) -> Result<(), A
     ensures { Puts (B.text out.old.items) (instr_spelled (code instr)) result (B.text out.new.items) }
 {
     match instr {
-        Instr::Load(to, number) => put_with(out, &[0, to.number], u64::from(number)),
-        Instr::Copied(to, from) => put(out, &[1, to.number, from.number]),
-        Instr::Reckon(op, to, by) => put(out, &[2, u8::from(op), to.number, by.number]),
+        Instr::Load(to, number) => put_with(out, &[LOAD, to.number], u64::from(number)),
+        Instr::Copied(to, from) => put(out, &[COPY, to.number, from.number]),
+        Instr::Reckon(op, to, by) => put(out, &[RECKON, u8::from(op), to.number, by.number]),
         Instr::Read(to, base, offset) => put_with(
             out,
-            &[3, to.number, base.number],
+            &[READ, to.number, base.number],
             u64::from(offset),
         ),
         Instr::Write(from, base, offset) => put_with(
             out,
-            &[4, from.number, base.number],
+            &[WRITE, from.number, base.number],
             u64::from(offset),
         ),
-        Instr::Jump(place) => put_with(out, &[5], u64::from(place)),
+        Instr::Jump(place) => put_with(out, &[JUMP], u64::from(place)),
         Instr::JumpIf(comparison, first, second, place) => put_with(
             out,
-            &[6, u8::from(comparison), first.number, second.number],
+            &[JUMP_IF, u8::from(comparison), first.number, second.number],
             u64::from(place),
         ),
-        Instr::Call(place) => put_with(out, &[7], u64::from(place)),
-        Instr::Return => put(out, &[8]),
-        Instr::In(to) => put(out, &[9, to.number]),
-        Instr::Out(from) => put(out, &[10, from.number]),
-        Instr::Halt => put(out, &[11]),
+        Instr::Call(place) => put_with(out, &[CALL], u64::from(place)),
+        Instr::Return => put(out, &[RETURN]),
+        Instr::In(to) => put(out, &[IN, to.number]),
+        Instr::Out(from) => put(out, &[OUT, from.number]),
+        Instr::Halt => put(out, &[HALT]),
     }
 }

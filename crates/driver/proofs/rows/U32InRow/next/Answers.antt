@@ -1,5 +1,5 @@
 use Rattle.driver.proofs.Seen.{none_left, word_taken}
-use Rattle.driver.proofs.rows.U32Spelled.next.Goals as goal
+use Rattle.driver.proofs.rows.U32InRow.next.Goals as goal
 
 pub returns-in_err-number : goal.returns-in_err-number
 returns-in_err-number c = rw c.from_residual.ensures (none_left c.args.cursor.now.rest.now c.in_err-number.ensures.cases)
