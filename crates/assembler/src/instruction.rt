@@ -64,10 +64,7 @@ impl Cursor<'_> {
         ensures bound { IfOk result (λ n. n < limit) }
     {
         self.skip_separator();
-        let (word, rest) = split_word(self.rest);
-        let number = number_below(word, limit).ok_or(expected)?;
-        self.rest = rest;
-        Ok(number)
+        self.take_word(|word| number_below(word, limit).ok_or(expected))
     }
 
     fn place(&mut self, labels: &[Label]) -> Result<u16, Expected>
@@ -110,12 +107,10 @@ impl Cursor<'_> {
     fn below(&mut self) -> Result<Option<Comparison>, Expected>
         ensures { Took comparison_of (below (left self.old)) result (left self.new) }
     {
-        let (word, rest) = split_word(self.rest);
-        if !is_word(word, b"below") {
-            return Err(Expected::Below);
-        }
-        self.rest = rest;
-        Ok(Some(Comparison::NotLess))
+        self.take_word(|word| match is_word(word, b"below") {
+            true => Ok(Some(Comparison::NotLess)),
+            false => Err(Expected::Below),
+        })
     }
 
     fn mnemonic(&mut self) -> Result<Mnemonic, Expected>

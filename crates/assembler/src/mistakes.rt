@@ -31,15 +31,7 @@ impl fmt::Display for Expected {
     ghost output = { λ e. Some (expected_text e) };
 
     fn fmt<W: fmt::Write>(&self, f: &mut fmt::Formatter<W>) -> fmt::Result {
-        f.write_str(self.words())
-    }
-}
-
-impl Expected {
-    fn words(self) -> &'static str
-        ensures { result.now ≡ expected_text self }
-    {
-        match self {
+        f.write_str(match self {
             Expected::Mnemonic => "an instruction",
             Expected::Operation => "an operation, such as sum",
             Expected::Below => "below, after not",
@@ -52,7 +44,7 @@ impl Expected {
             Expected::LabelName => "a label's name before the colon",
             Expected::LineEnd => "the end of the line",
             Expected::Room => "no more than 4096 instructions",
-        }
+        })
     }
 }
 

@@ -1,7 +1,7 @@
 // The words of a line: blanks, words, names and numbers.
 ghost use Rattle.std.specs.Prelude.{◌≡◌, ◌<◌, length, IfSome, IfOk, string_bytes};
 ghost use Rattle.command.specs.Machine.{each};
-ghost use Rattle.assembler.specs.Words.{blank, letter, digit, in_word, in_name, in_line, word, past_word, spaced, separated, a_name, number_below, printable, behind, Behind, line_of, after_line};
+ghost use Rattle.assembler.specs.Words.{blank, letter, in_word, in_name, in_line, word, past_word, spaced, separated, a_name, number_below, printable, behind, Behind, line_of, after_line};
 
 use scan::fronts::split_while;
 use scan::numbers::number_up_to;
@@ -10,33 +10,27 @@ use std::alloc::{AllocError, Global};
 fn is_blank(b: u8) -> bool
     ensures { result ≡ blank b }
 {
-    b == b' ' || b == b'\t' || b == b'\r'
+    matches!(b, b' ' | b'\t' | b'\r')
 }
 
 fn is_letter(b: u8) -> bool
     ensures { result ≡ letter b }
 {
-    (b'A' <= b && b <= b'Z') || (b'a' <= b && b <= b'z') || b == b'_'
-}
-
-fn is_digit(b: u8) -> bool
-    ensures { result ≡ digit b }
-{
-    b'0' <= b && b <= b'9'
+    b.is_ascii_alphabetic() || b == b'_'
 }
 
 // All but blanks, commas, colons and the sign of a comment.
 fn in_word(b: u8) -> bool
     ensures { result ≡ in_word b }
 {
-    !(is_blank(b) || b == b',' || b == b':' || b == b'#')
+    !(is_blank(b) || matches!(b, b',' | b':' | b'#'))
 }
 
 // Letters, digits and underscores.
 fn in_name(b: u8) -> bool
     ensures { result ≡ in_name b }
 {
-    is_letter(b) || is_digit(b)
+    is_letter(b) || b.is_ascii_digit()
 }
 
 // All but the line's end.
@@ -120,7 +114,7 @@ fn printable(b: u8) -> u8
     ensures value { result ≡ printable b }
     ensures ascii { result < 128 }
 {
-    if b' ' <= b && b <= b'~' { b } else { b'?' }
+    if matches!(b, b' '..=b'~') { b } else { b'?' }
 }
 
 // Bytes as they can be shown.

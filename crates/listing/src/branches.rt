@@ -19,8 +19,10 @@ fn branch_of(instr: Instr) -> Option<Branch>
     ensures { result ≡ branch_of (code instr) }
 {
     match instr {
-        Instr::Jump(place) | Instr::JumpIf(_, _, _, place) => Some(Branch::Jump(place as usize)),
-        Instr::Call(place) => Some(Branch::Call(place as usize)),
+        Instr::Jump(place) | Instr::JumpIf(_, _, _, place) => Some(Branch::Jump(usize::from(
+            place,
+        ))),
+        Instr::Call(place) => Some(Branch::Call(usize::from(place))),
         _ => None,
     }
 }

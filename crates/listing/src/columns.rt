@@ -54,7 +54,7 @@ impl fmt::Display for Blanks {
     ghost output = { λ b. Some (blanks b.count) };
 
     fn fmt<W: fmt::Write>(&self, f: &mut fmt::Formatter<W>) -> fmt::Result {
-        for i in 0..self.count {
+        for _ in 0..self.count {
             f.write_str(" ")?;
         }
         Ok(())

@@ -11,7 +11,9 @@ use std::fmt;
 fn label_of(labels: &[Label], place: usize) -> Option<&str>
     ensures { option_map (λ x. x.now) result ≡ name_of (labels_of labels.now) place }
 {
-    let found = labels.iter().find(|label| label.place as usize == place)?;
+    let found = labels
+        .iter()
+        .find(|label| usize::from(label.place) == place)?;
     Some(found.name.as_str())
 }
 
@@ -45,7 +47,7 @@ impl fmt::Display for Headings<'_> {
 
     fn fmt<W: fmt::Write>(&self, f: &mut fmt::Formatter<W>) -> fmt::Result {
         for label in self.labels {
-            if label.place as usize == self.place {
+            if usize::from(label.place) == self.place {
                 let name = label.name.as_str();
                 write!(f, "{name}:\n")?;
             }

@@ -24,7 +24,7 @@ impl<'a> Named<'a> {
     {
         Place {
             labels: self.labels,
-            number: number as usize,
+            number: usize::from(number),
         }
     }
 }
