@@ -12,7 +12,7 @@ returns-in_err-few c =
     let e = c.args.self.now in
     let h = c.in_err-few.ensures in
     refused c.from_residual.result _ _ (TellsWords c.args.from c.args.seen.now c.args.seen.now (Held e)) h.0 c.from_residual.ensures.1
-        (h.1, refl, refuses_words (Held e) c.args.from (length c.args.seen.now) h.1)
+    (h.1, refl, refuses_words (Held e) c.args.from (length c.args.seen.now) h.1)
 
 pub returns : goal.returns
 returns c =
