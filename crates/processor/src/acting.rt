@@ -1,5 +1,5 @@
 // The emulator as a processor: each act that the debugger may ask for.
-ghost use Rattle.std.specs.Prelude.{◌≡◌, ◌≤◌, MatchResult};
+ghost use Rattle.std.specs.Prelude.{◌≡◌, ◌<◌, ◌≤◌, length, MatchResult};
 ghost use Rattle.processor.specs.Holding.{Held, room_of};
 
 use crate::emulator::Emulator;
@@ -10,10 +10,26 @@ use command::code::Instr;
 use target::answers::{Came, Fault, Spot};
 use target::processor::Processor;
 
+const MOST_INSTRUCTIONS: usize = 4096;
+
+const MOST_BREAKS: usize = 64;
+
+const MOST_NUMBERS: usize = 4096;
+
 fn slot_numbered(number: u64) -> Result<u8, Fault>
     ensures { MatchResult result (λ slot. slot ≡ number) (λ fault. (fault ≡ Fault.NoSuchSlot) × (256 ≤ number)) }
 {
     u8::try_from(number).map_err(|_| Fault::NoSuchSlot)
+}
+
+// So many numbers may be asked for at once.
+fn few(seen: &[u64]) -> Result<(), Fault>
+    ensures { MatchResult result (λ _. length seen.now ≤ 4096) (λ fault. (fault ≡ Fault.TooManyNumbers) × (4096 < length seen.now)) }
+{
+    if seen.len() > MOST_NUMBERS {
+        return Err(Fault::TooManyNumbers);
+    }
+    Ok(())
 }
 
 impl Processor for Emulator {
@@ -21,9 +37,9 @@ impl Processor for Emulator {
 
     ghost room = { λ e. room_of e };
 
-    // Here and below, each limit has a fault of its own, so each is an `if`.
+    // The limits of a program and of breaks have each a fault of its own, so each is an `if`.
     fn begin(&mut self, program: &[Instr]) -> Result<(), Fault> {
-        if program.len() > 4096 {
+        if program.len() > MOST_INSTRUCTIONS {
             return Err(Fault::TooLong);
         }
         self.program.clear();
@@ -41,7 +57,7 @@ impl Processor for Emulator {
     }
 
     fn goes(&mut self, n: u64, breaks: &[Break]) -> Result<Came, Fault> {
-        if breaks.len() > 64 {
+        if breaks.len() > MOST_BREAKS {
             return Err(Fault::TooManyBreaks);
         }
         let put = self.state.put;
@@ -73,17 +89,13 @@ impl Processor for Emulator {
     }
 
     fn words(&self, from: u64, seen: &mut [u64]) -> Result<(), Fault> {
-        if seen.len() > 4096 {
-            return Err(Fault::TooManyNumbers);
-        }
+        few(seen)?;
         tell_words(self.state.words.items.as_slice(), from, seen);
         Ok(())
     }
 
     fn outs(&self, from: u64, seen: &mut [u64]) -> Result<usize, Fault> {
-        if seen.len() > 4096 {
-            return Err(Fault::TooManyNumbers);
-        }
+        few(seen)?;
         Ok(tell_outs(self.state.log.as_slice(), self.state.put, from, seen))
     }
 

@@ -47,7 +47,7 @@ fn word_of(number: u64) -> Result<u32, ReckonError>
     u32::try_from(number).map_err(|_| ReckonError::TooLarge)
 }
 
-// A reckoning by numbers.
+// A reckoning by numbers. The reply says all; a refusal is also told by its number.
 pub fn reckon(op: u64, a: u64, b: u64) -> Result<u64, ReckonError>
     ensures reply { result ≡ reckon_reply op a b }
     ensures refused { IfErr result (λ e. refusal_number e ≡ refusal_of op a b) }

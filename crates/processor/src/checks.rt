@@ -8,14 +8,11 @@ use crate::state::State;
 use command::code::{Instr, Op, Reg};
 use target::answers::Why;
 
-// There are 65,536 words.
-fn there(a: usize) -> Result<usize, Why>
-    ensures { MatchResult result (λ p. (p ≡ a) × (a < 65536)) (λ y. (y ≡ Why.NoWord) × (65536 ≤ a)) }
+// The place of the word at a number, if there is one: there are 65,536.
+fn there(number: u64) -> Result<u16, Why>
+    ensures { MatchResult result (λ a. (a ≡ number) × (number < 65536)) (λ y. (y ≡ Why.NoWord) × (65536 ≤ number)) }
 {
-    if a >= 65536 {
-        return Err(Why::NoWord);
-    }
-    Ok(a)
+    u16::try_from(number).map_err(|_| Why::NoWord)
 }
 
 impl State {
@@ -37,24 +34,24 @@ impl State {
     }
 
     // Reading a word and writing it want the same.
-    pub(crate) fn word_place(&self, j: Reg, n: u16) -> Result<usize, Why>
+    pub(crate) fn word_place(&self, j: Reg, n: u16) -> Result<u16, Why>
         ensures { MatchResult result (λ a. (a ≡ slice_index self.now.regs j.number + n) × (a < 65536)) (λ y. (y ≡ Why.NoWord) × (65536 ≤ slice_index self.now.regs j.number + n)) }
     {
-        there(self.regs[j.number as usize] as usize + n as usize)
+        there(u64::from(self.regs[j.number as usize]) + u64::from(n))
     }
 
     // Where a call leaves the place to return to.
-    pub(crate) fn call_place(&self) -> Result<usize, Why>
+    pub(crate) fn call_place(&self) -> Result<u16, Why>
         ensures { MatchResult result (λ a. (a + 1 ≡ slice_index self.now.regs 15) × (a < 65536)) (λ y. (y ≡ Why.NoWord) × ((slice_index self.now.regs 15 ≡ 0) ⊎ (65536 < slice_index self.now.regs 15))) }
     {
         let top = self.regs[15].checked_sub(1).ok_or(Why::NoWord)?;
-        there(top as usize)
+        there(u64::from(top))
     }
 
-    pub(crate) fn return_place(&self) -> Result<usize, Why>
+    pub(crate) fn return_place(&self) -> Result<u16, Why>
         ensures { MatchResult result (λ a. (a ≡ slice_index self.now.regs 15) × (a < 65536)) (λ y. (y ≡ Why.NoWord) × (65536 ≤ slice_index self.now.regs 15)) }
     {
-        there(self.regs[15] as usize)
+        there(u64::from(self.regs[15]))
     }
 
     // The next number that came in.

@@ -12,7 +12,8 @@ use command::code::Instr;
 use target::answers::Came;
 
 impl State {
-    // On by so many steps at most, till a break holds or it can't go on. This is the only caller of `step`, which is then inlined: a second loop makes both slow.
+    // On by so many steps at most, till a break holds or it can't go on.
+    // This is the only caller of `step`, which is then inlined: a second loop makes both slow.
     // The program and what came in are apart, as each goes on alone from `step`.
     pub(crate) fn goes(&mut self, program: &[Instr], fed: &[u32], breaks: &[Break], n: u64) -> Came
         requires program { length program.now ≤ 4096 }

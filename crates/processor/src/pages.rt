@@ -2,7 +2,7 @@
 ghost use Rattle.std.specs.Prelude.{◌≡◌, ◌≤◌, vec_len, vec_capacity};
 ghost use Rattle.processor.specs.Pages.{Inside, FreeInside, Apart, Distinct};
 
-// Pages have numbers, and room for the most that may be named is taken at once: keeping a state may not want memory.
+// Pages have numbers, since states share them, and room for the most that may be named is taken at once: keeping a state may not want memory.
 // A row of 256 page numbers for each slot, and one more, the present, for the words as they were last kept or taken up.
 #[derive(Drop)]
 pub(crate) struct Pages {

@@ -3,6 +3,8 @@ ghost use Rattle.std.specs.Prelude.{◌≡◌, [], replicate, vec_capacity};
 
 use crate::words::Words;
 
+// It has no model of its own: what it stands for depends on a base, the log and the pages that all states of a run share, which no view of it alone could name.
+// So the contracts say `Like` with a base.
 #[derive(Drop)]
 pub(crate) struct State {
     pub(crate) at: u32,

@@ -85,7 +85,7 @@ impl State {
             self.regs[k.number as usize],
             self.regs[j.number as usize],
         ) {
-            self.at = n as u32;
+            self.at = u32::from(n);
         } else {
             self.at = next;
         }
@@ -98,8 +98,8 @@ impl State {
     {
         let place = self.call_place()?;
         let word = self.words.put(place, next);
-        self.regs[15] = place as u32;
-        self.at = k as u32;
+        self.regs[15] = u32::from(place);
+        self.at = u32::from(k);
         Ok(Some(word))
     }
 
@@ -109,7 +109,7 @@ impl State {
     {
         let a = self.return_place()?;
         self.at = self.words.get(a);
-        self.regs[15] = a as u32 + 1;
+        self.regs[15] = u32::from(a) + 1;
         Ok(None)
     }
 
@@ -155,7 +155,7 @@ impl State {
             Instr::Read(k, from, n) => self.reads(next, k, from, n),
             Instr::Write(k, to, n) => self.writes(next, k, to, n),
             Instr::Jump(n) => {
-                self.at = n as u32;
+                self.at = u32::from(n);
                 Ok(None)
             }
             Instr::JumpIf(comparison, k, j, n) => self.jumps_if(next, comparison, k, j, n),

@@ -1,5 +1,5 @@
 // Whether a break holds after a step.
-ghost use Rattle.std.specs.Prelude.{◌≡◌, ◌<◌, not, ◌==◌};
+ghost use Rattle.std.specs.Prelude.{◌≡◌, not, ◌==◌};
 ghost use Rattle.command.specs.Machine.{State as Model, every, any, word_at};
 ghost use Rattle.command.specs.Plain.{test_holds, holds as held_by};
 ghost use Rattle.command.specs.Breaks.{test_of, tests_of, break_of, breaks_of};
@@ -16,7 +16,7 @@ impl State {
     {
         let v = match t.subject {
             Subject::Register(k) => self.regs[k.number as usize],
-            Subject::Word(a) => self.words.get(a as usize),
+            Subject::Word(a) => self.words.get(a),
         };
         compare(t.comparison, v, t.value)
     }
@@ -28,8 +28,7 @@ impl State {
     }
 
     // Did the step that came to this change the word?
-    fn changed(&self, a: usize, wrote: Option<Overwritten>) -> bool
-        requires { a < 65536 }
+    fn changed(&self, a: u16, wrote: Option<Overwritten>) -> bool
         ensures { (b : Base) (s t : Model) → OnTo b self.now wrote s t → result ≡ not (word_at s.words a == word_at t.words a) }
     {
         wrote.is_some_and(|word| word.place == a && word.before != self.words.get(a))
@@ -39,8 +38,8 @@ impl State {
     fn holds(&self, stop: &Break, wrote: Option<Overwritten>) -> bool
         ensures { (b : Base) (s t : Model) → OnTo b self.now wrote s t → result ≡ held_by s t (break_of stop.now) }
     {
-        stop.place.is_none_or(|p| self.at == p as u32)
-            && stop.changed.is_none_or(|a| self.changed(a as usize, wrote))
+        stop.place.is_none_or(|p| self.at == u32::from(p))
+            && stop.changed.is_none_or(|a| self.changed(a, wrote))
             && self.all_pass(stop)
     }
 

@@ -11,6 +11,10 @@ use std::alloc::{AllocError, Global};
 pub(crate) const PRESENT: usize = 256;
 // A page for each place of each row, and as many more as make collecting rare.
 const PAGES: usize = 73728;
+// The numbers of all pages: 256 to a page.
+const CELLS: usize = PAGES * 256;
+// A place for each page of each row, the present one too.
+const PLACES: usize = (PRESENT + 1) * 256;
 
 // Marks the pages that a row names, and no others.
 fn mark(tables: &[u32], used: &mut [bool])
@@ -47,8 +51,8 @@ fn gather(used: &[bool], free: &mut Vec<u32>)
 impl Pages {
     // Pages of zeros, the first of which every row names.
     pub(crate) fn zeros(heap: Global) -> Result<Pages, AllocError> {
-        let cells = vec![in heap; 0u32; 18874368]?;
-        let tables = vec![in heap; 0u32; 65792]?;
+        let cells = vec![in heap; 0u32; CELLS]?;
+        let tables = vec![in heap; 0u32; PLACES]?;
         let mut used = vec![in heap; false; PAGES]?;
         let mut free = Vec::with_capacity(heap, PAGES)?;
         mark(tables.as_slice(), used.as_mut_slice());

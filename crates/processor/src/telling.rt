@@ -26,6 +26,7 @@ pub(crate) fn tell_outs(log: &[u32], put: usize, from: u64, seen: &mut [u64]) ->
     let out = &log[..put.min(log.len())];
     let rest = &out[(from as usize).min(out.len())..];
     let told = &rest[..seen.len().min(rest.len())];
+    // By index: what holds of a loop over both at once speaks of the places that it has lent, and not of the row.
     for (i, number) in told.iter().enumerate() {
         seen[i] = u64::from(*number);
     }

@@ -6,10 +6,10 @@ use Rattle.processor.proofs.Defaults.{defaults}
 use Rattle.processor.proofs.Holds.{begun}
 use Rattle.processor.proofs.acting.EmulatorProcessor.begin.Goals as goal
 
-pub returns-then-program-gt4096 : goal.returns-then-program-gt4096
-returns-then-program-gt4096 c =
+pub returns-then-program-gt-MOST_INSTRUCTIONS : goal.returns-then-program-gt-MOST_INSTRUCTIONS
+returns-then-program-gt-MOST_INSTRUCTIONS c =
     let e = c.args.self.now in
-    (c.if-program-gt4096.true, refuses_starts (Held e) (Held e) (codes c.args.program.now) (omega (arith, each_length code c.args.program.now)) (λ t h. h))
+    (c.if-program-gt-MOST_INSTRUCTIONS.true, refuses_starts (Held e) (Held e) (codes c.args.program.now) (omega (arith, each_length code c.args.program.now)) (λ t h. h))
 
 pub returns : goal.returns
 returns c =

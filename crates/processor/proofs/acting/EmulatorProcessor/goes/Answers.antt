@@ -9,10 +9,10 @@ use Rattle.processor.proofs.Faults.{refused}
 use Rattle.processor.proofs.Promises.{goes_promise, no_room, logged_held}
 use Rattle.processor.proofs.acting.EmulatorProcessor.goes.Goals as goal
 
-pub returns-then-breaks-gt64 : goal.returns-then-breaks-gt64
-returns-then-breaks-gt64 c =
+pub returns-then-breaks-gt-MOST_BREAKS : goal.returns-then-breaks-gt-MOST_BREAKS
+returns-then-breaks-gt-MOST_BREAKS c =
     let e = c.args.self.now in record {
-      goes = (c.if-breaks-gt64.true, refuses_goes (Held e) (Held e) c.args.n (breaks_of c.args.breaks.now) (omega (arith, each_length break_of c.args.breaks.now)) (λ t h. h));
+      goes = (c.if-breaks-gt-MOST_BREAKS.true, refuses_goes (Held e) (Held e) c.args.n (breaks_of c.args.breaks.now) (omega (arith, each_length break_of c.args.breaks.now)) (λ t h. h));
       wanting = tt;
     }
 

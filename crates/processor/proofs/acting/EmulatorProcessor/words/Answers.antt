@@ -1,14 +1,18 @@
 use Rattle.std.proofs.Common.{◌≡◌, ◌+◌, length, get_or, refl, ap, ◌∙◌, subst, arith}
-use Rattle.target.specs.Acts.{Does}
+use Rattle.target.specs.Acts.{Does, TellsWords}
 use Rattle.target.specs.Run.{looks_words, saw}
 use Rattle.target.proofs.Doing.{refuses_words}
 use Rattle.processor.specs.Holding.{Held}
+use Rattle.processor.proofs.Faults.{refused}
 use Rattle.processor.proofs.Promises.{words_promise}
 use Rattle.processor.proofs.acting.EmulatorProcessor.words.Goals as goal
 
-pub returns-then-seen-gt4096 : goal.returns-then-seen-gt4096
-returns-then-seen-gt4096 c =
-    (c.if-seen-gt4096.true, refl, refuses_words (Held c.args.self.now) c.args.from (length c.args.seen.now) c.if-seen-gt4096.true)
+pub returns-in_err-few : goal.returns-in_err-few
+returns-in_err-few c =
+    let e = c.args.self.now in
+    let h = c.in_err-few.ensures in
+    refused c.from_residual.result _ _ (TellsWords c.args.from c.args.seen.now c.args.seen.now (Held e)) h.0 c.from_residual.ensures.1
+    (h.1, refl, refuses_words (Held e) c.args.from (length c.args.seen.now) h.1)
 
 pub returns : goal.returns
 returns c =

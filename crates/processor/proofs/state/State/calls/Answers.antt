@@ -15,5 +15,6 @@ pub returns-clause-after : goal.returns-clause-after
 returns-clause-after c =
     let h = c.in_ok-place.ensures in
     λ b s ins r.
-    calls_on b c.args.self.now c.args.next s r c.put-word.new.self ins c.args.k c.in_ok-place.place _ h.1 h.0 c.put-word.ensures.word
-    c.put-word.ensures.items c.put-word.ensures.pages
+    simp (c.from-self.ensures, c.from.ensures)
+    (calls_on b c.args.self.now c.args.next s r c.put-word.new.self ins c.args.k c.in_ok-place.place _ h.1 h.0 c.put-word.ensures.word
+    c.put-word.ensures.items c.put-word.ensures.pages)

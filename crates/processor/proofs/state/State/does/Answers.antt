@@ -16,7 +16,7 @@ returns-in-Copied-clause-after c =
 pub returns-in-Jump-clause-after : goal.returns-in-Jump-clause-after
 unfolding does
 returns-in-Jump-clause-after c =
-    λ b s l. simp c.in-Jump.is (goes_to b c.args.self.now s l.like c.in-Jump.n)
+    λ b s l. simp (c.in-Jump.is, c.from-self.ensures) (goes_to b c.args.self.now s l.like c.in-Jump.n)
 
 pub returns-in-Halt-clause-after : goal.returns-in-Halt-clause-after
 unfolding does

@@ -14,4 +14,4 @@ returns-in_err-a-clause-after c =
 pub returns-clause-after : goal.returns-clause-after
 returns-clause-after c =
     let h = c.in_ok-a.ensures in
-    λ b s ins l. returns_on b c.args.self.now s l ins c.in_ok-a.a c.get-self.result h.1 h.0 c.get-self.ensures
+    λ b s ins l. simp c.from.ensures (returns_on b c.args.self.now s l ins c.in_ok-a.a c.get-self.result h.1 h.0 c.get-self.ensures)
