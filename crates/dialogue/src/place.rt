@@ -34,6 +34,7 @@ impl Place {
     }
 }
 
+// A session's place reads the same, of a narrower address; a type for what stands behind both would be longer than these lines.
 impl fmt::Display for Place {
     fn fmt<W: fmt::Write>(&self, f: &mut fmt::Formatter<W>) -> fmt::Result {
         let time = self.time;
