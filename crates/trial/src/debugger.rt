@@ -23,6 +23,7 @@ pub struct Trial {
     pub(crate) now: usize,
     // As it is at `now`.
     pub(crate) memory: Memory,
+    // In the order in which they were set, in which they are asked; at most 64, so a search along them is short.
     pub(crate) breaks: Vec<Numbered>,
     // The number of the next break.
     pub(crate) next: u64,

@@ -20,7 +20,7 @@ pub(crate) struct Moment {
     pub(crate) out: Option<u32>,
 }
 
-// Why there is no step from a state.
+// Why there is no step from a state. Its own: the debugger that this one is to be played against shares no code with it.
 #[derive(Clone, Copy)]
 pub(crate) enum Why {
     Halted,

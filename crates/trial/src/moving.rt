@@ -95,7 +95,7 @@ impl Trial {
     }
 
     // On, till a test stops it.
-    fn on<F: Fn(&Trial) -> bool>(&mut self, most: u64, stops: F) -> Result<(), AllocError>
+    fn on_till<F: Fn(&Trial) -> bool>(&mut self, most: u64, stops: F) -> Result<(), AllocError>
         requires { F.IsAlwaysCallable stops }
         ensures { OnOk result ((w : Plain) (bs : List Asked) → Tells (FnReturnsAt F.Fn stops) w bs → Kept self.old w → Kept self.new (moved w (on_till w bs w.now most))) }
     {
@@ -111,7 +111,7 @@ impl Trial {
     }
 
     // Back, till a test stops it.
-    fn off<F: Fn(&Trial) -> bool>(&mut self, most: u64, stops: F)
+    fn back_till<F: Fn(&Trial) -> bool>(&mut self, most: u64, stops: F)
         requires { F.IsAlwaysCallable stops }
         ensures kept { (w : Plain) (bs : List Asked) → Tells (FnReturnsAt F.Fn stops) w bs → Kept self.old w → Kept self.new (moved w (back_till w bs w.now most)) }
         ensures time { ((e : Trial) → FnReturnsAt F.Fn stops e true → ⊥) → self.new.now ≡ self.old.now - most }
@@ -127,28 +127,28 @@ impl Trial {
     pub(crate) fn forward(&mut self, most: u64) -> Result<(), AllocError>
         ensures { OnOk result ((w : Plain) → Kept self.old w → Kept self.new (moved w (on_till w [] w.now most))) }
     {
-        self.on(most, |_| false)
+        self.on_till(most, |_| false)
     }
 
     // On, till a break holds.
     pub(crate) fn run(&mut self, most: u64) -> Result<(), AllocError>
         ensures { OnOk result ((w : Plain) → Kept self.old w → Kept self.new (moved w (on_till w w.breaks w.now most))) }
     {
-        self.on(most, |trial| trial.stops())
+        self.on_till(most, |trial| trial.stops())
     }
 
     pub(crate) fn back(&mut self, most: u64)
         ensures kept { (w : Plain) → Kept self.old w → Kept self.new (moved w (w.now - most)) }
         ensures time { self.new.now ≡ self.old.now - most }
     {
-        self.off(most, |_| false);
+        self.back_till(most, |_| false);
     }
 
     // Back, till a break holds.
     pub(crate) fn rerun(&mut self, most: u64)
         ensures { (w : Plain) → Kept self.old w → Kept self.new (moved w (back_till w w.breaks w.now most)) }
     {
-        self.off(most, |trial| trial.stops());
+        self.back_till(most, |trial| trial.stops());
     }
 
     // How many steps ago the word changed last, if it ever did.

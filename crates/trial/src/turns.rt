@@ -21,6 +21,7 @@ pub enum Refusal {
 }
 
 // The row of numbers that a command showed, if it showed one, or why it is refused.
+// It stands inside the `Result` of memory, and is not joined to it: a command that is refused is answered too, and leaves the debugger sound.
 pub type Answer = Result<Option<Vec<u64>>, Refusal>;
 
 #[derive(Drop)]

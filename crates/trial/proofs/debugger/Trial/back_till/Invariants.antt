@@ -2,7 +2,7 @@ use Rattle.std.proofs.Common.{◌≡◌, ◌+◌, ◌-◌, List}
 use Rattle.std.specs.Fn.{FnReturnsAt}
 use Rattle.command.specs.Plain.{Plain, Break, moved, back_till}
 use Rattle.trial.specs.Kept.{Kept, Tells}
-use Rattle.trial.proofs.debugger.Trial.off.Given as goal
+use Rattle.trial.proofs.debugger.Trial.back_till.Given as goal
 
 -- from where it came to, going back by what is left comes to the same
 abbrev pub invariant-loop : goal.invariant-loop

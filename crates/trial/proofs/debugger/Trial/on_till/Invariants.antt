@@ -2,7 +2,7 @@ use Rattle.std.proofs.Common.{◌≡◌, ◌-◌, List}
 use Rattle.std.specs.Fn.{FnReturnsAt}
 use Rattle.command.specs.Plain.{Plain, Break, moved, on_till}
 use Rattle.trial.specs.Kept.{Kept, Tells}
-use Rattle.trial.proofs.debugger.Trial.on.Given as goal
+use Rattle.trial.proofs.debugger.Trial.on_till.Given as goal
 
 -- from where it came to, going on by what is left comes to the same
 abbrev pub invariant-loop : goal.invariant-loop

@@ -3,7 +3,7 @@ use Rattle.std.proofs.lemmas.Bool.{cases_lt}
 use Rattle.std.specs.Fn.{FnReturnsAt}
 use Rattle.command.specs.Plain.{moved}
 use Rattle.trial.proofs.Loops.{moved_as, back_zero, back_done, back_more, back_hit}
-use Rattle.trial.proofs.debugger.Trial.off.Goals as goal
+use Rattle.trial.proofs.debugger.Trial.back_till.Goals as goal
 
 pub returns-then-stops : goal.returns-then-stops
 returns-then-stops g c =

@@ -1,7 +1,7 @@
 use Rattle.std.proofs.Common.{refl, sym, ◌∙◌}
 use Rattle.command.specs.Plain.{moved}
 use Rattle.trial.proofs.Loops.{moved_as, on_stuck, on_done, on_more, on_hit}
-use Rattle.trial.proofs.debugger.Trial.on.Goals as goal
+use Rattle.trial.proofs.debugger.Trial.on_till.Goals as goal
 
 pub returns-then-not-branch : goal.returns-then-not-branch
 returns-then-not-branch g c w bs tells k =
