@@ -10,6 +10,7 @@ use crate::mistakes::Expected;
 use crate::words::{behind, is_name, past_blanks, past_separator, split_word};
 use scan::fronts::is_over;
 
+// Apart from the prompt's cursor: there a comma is blank and numbers are expected, here it separates operands.
 #[derive(Clone, Copy)]
 pub(crate) struct Cursor<'t> {
     pub(crate) rest: &'t [u8],

@@ -11,7 +11,7 @@ pub struct Label {
     pub place: u16,
 }
 
-// The place of a label, if there is one of that name.
+// The place of a label, if there is one of that name. No map: labels are shown in order, and the first of a place names it.
 pub(crate) fn place_of(labels: &[Label], name: &[u8]) -> Option<u16>
     ensures { result ≡ place_of (labels_of labels.now) name.now }
 {

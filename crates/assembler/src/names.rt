@@ -59,6 +59,7 @@ pub(crate) fn is_word(word: &[u8], name: &[u8]) -> bool
     word == name
 }
 
+// Names are text that lasts, not a Display: words are compared with them.
 fn mnemonic_name(mnemonic: Mnemonic) -> &'static str
     ensures { result.now ≡ mnemonic_name mnemonic }
 {
@@ -77,6 +78,7 @@ fn mnemonic_name(mnemonic: Mnemonic) -> &'static str
     }
 }
 
+// Three searches over tables: a generic one would take a closure whose bound names a lifetime, which the borrow checker does not cover.
 pub(crate) fn mnemonic_named(word: &[u8]) -> Option<Mnemonic>
     ensures { result ≡ mnemonic_named word.now }
 {

@@ -115,7 +115,7 @@ fn find_labels(heap: Global, text: &[u8]) -> Result<Vec<Label>, AssembleError>
 {
     let mut labels = Vec::new(heap);
     let mut place = 0;
-    // Lines and their count by hand: a split at line ends would give one more empty line behind the last end.
+    // A line at a time with its number; `split_line` takes a line without its end.
     let mut number: usize = 1;
     let mut rest = text;
     while !rest.is_empty() {
@@ -171,7 +171,7 @@ fn read_lines(heap: Global, text: &[u8], labels: &[Label]) -> Result<Vec<Instr>,
     ensures { Answers (λ v. codes v.items) (read_lines 1 (labels_of labels.now) [] (lines text.now)) result }
 {
     let mut program = Vec::new(heap);
-    // Lines and their count by hand: a split at line ends would give one more empty line behind the last end.
+    // A line at a time with its number; `split_line` takes a line without its end.
     let mut number: usize = 1;
     let mut rest = text;
     while !rest.is_empty() {

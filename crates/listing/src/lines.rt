@@ -67,7 +67,7 @@ fn arrow(here: bool) -> &'static str
     if here { "->" } else { "  " }
 }
 
-// The line of a place, below its labels.
+// The line of a place, below its labels. Program and labels side by side: what is shown of labels alone has no program.
 #[derive(Clone, Copy)]
 pub(crate) struct Line<'a> {
     pub program: &'a [Instr],

@@ -42,7 +42,7 @@ impl Cursor<'_> {
         Ok(number)
     }
 
-    // A command word.
+    // A command word. One step for both, with what reads the word passed to it, would be no shorter than the two.
     pub(crate) fn verb(&mut self) -> Result<Verb, Expected>
         ensures { Took itself (a_verb (left self.old)) result (left self.new) }
     {

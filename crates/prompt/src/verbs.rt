@@ -31,6 +31,7 @@ pub const VERBS: [Verb; 9] = [
 ];
 
 impl Verb {
+    // Text that lasts, not a Display: it is compared as well as shown.
     pub fn spelled(self) -> &'static str
         ensures { result.now ≡ spelling self }
     {
