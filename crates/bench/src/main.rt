@@ -19,6 +19,7 @@ const STRIDE: u64 = 4096;
 
 const STRIDES: u64 = 10000;
 
+// In words of this program's own: `Display` has those that a user of the debugger reads.
 fn told(fault: Fault) -> anyhow::Error {
     match fault {
         Fault::TooLong => anyhow!("more than 4,096 instructions"),
@@ -87,11 +88,10 @@ fn run(rt: &HostRuntime) -> anyhow::Result<()> {
         "the program does not assemble"
     ))?;
     let watch = never().ok_or_else(|| anyhow!("no such break"))?;
-    let none: [Break; 0] = [];
     let program = assembly.program.as_slice();
     let mut p = Emulator::new(rt.alloc())?;
-    timed(rt, &mut p, program, "plain", &none, false)?;
-    timed(rt, &mut p, program, "kept", &none, true)?;
+    timed(rt, &mut p, program, "plain", &[], false)?;
+    timed(rt, &mut p, program, "kept", &[], true)?;
     taken_up(rt, &mut p)?;
     timed(rt, &mut p, program, "one-break", &[watch], false)?;
     timed(rt, &mut p, program, "64-breaks", &[watch; 64], false)?;

@@ -11,7 +11,7 @@ use std::time::Instant;
 // As many as the bare processor goes.
 const STEPS: u64 = 40_960_000;
 
-// A processor that never stops: how the machine is answered.
+// A processor that never stops: how the machine is answered. Its entry takes the kind of an event as a number.
 const CAME: u64 = 1;
 
 const NEXT: u64 = 3;
@@ -51,7 +51,8 @@ pub fn machine_alone(rt: &HostRuntime) -> anyhow::Result<()> {
         row.as_mut_slice(),
     );
     let mut acts = 1u64;
-    for _turn in 0..u64::MAX {
+    // A bound, since each function ends; the machine is done long before.
+    for _ in 0..u64::MAX {
         let (kind, by) = match told {
             Told::Goes(n) => (CAME, n),
             Told::Done | Told::No(_) => break,
