@@ -1,3 +1,4 @@
+pub mod Pieces
 pub mod Runs
 pub mod Cuts
 pub mod Tables

@@ -10,7 +10,7 @@ ghost use Rattle.assembler.specs.Source.{new_label, next_place, noted, read_labe
 use crate::cursor::Cursor;
 use crate::labels::{Label, place_of};
 use crate::mistakes::{AssembleError, Expected};
-use crate::words::{Line, past_blanks, shown, split_line};
+use crate::words::{Line, ends_line, past_blanks, shown};
 use command::code::Instr;
 use scan::fronts::is_over;
 use std::alloc::{AllocError, Global};
@@ -115,16 +115,11 @@ fn find_labels(heap: Global, text: &[u8]) -> Result<Vec<Label>, AssembleError>
 {
     let mut labels = Vec::new(heap);
     let mut place = 0;
-    // A line at a time with its number; `split_line` takes a line without its end.
-    let mut number: usize = 1;
-    let mut rest = text;
-    while !rest.is_empty() {
-        let (text, more) = split_line(rest);
-        let (name, next) = line_label(heap, &labels, place, Line { number, text })?;
+    for (i, piece) in text.split_inclusive(ends_line).enumerate() {
+        let line = Line::of(i, piece);
+        let (name, next) = line_label(heap, &labels, place, line)?;
         put_label(heap, &mut labels, name, place)?;
         place = next;
-        number += 1;
-        rest = more;
     }
     Ok(labels)
 }
@@ -171,15 +166,10 @@ fn read_lines(heap: Global, text: &[u8], labels: &[Label]) -> Result<Vec<Instr>,
     ensures { Answers (λ v. codes v.items) (read_lines 1 (labels_of labels.now) [] (lines text.now)) result }
 {
     let mut program = Vec::new(heap);
-    // A line at a time with its number; `split_line` takes a line without its end.
-    let mut number: usize = 1;
-    let mut rest = text;
-    while !rest.is_empty() {
-        let (text, more) = split_line(rest);
-        let instr = line_instr(heap, labels, Line { number, text })?;
+    for (i, piece) in text.split_inclusive(ends_line).enumerate() {
+        let line = Line::of(i, piece);
+        let instr = line_instr(heap, labels, line)?;
         put_instr(&mut program, instr)?;
-        number += 1;
-        rest = more;
     }
     Ok(program)
 }

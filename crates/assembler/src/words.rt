@@ -1,7 +1,7 @@
 // The words of a line: blanks, words, names and numbers.
-ghost use Rattle.std.specs.Prelude.{◌≡◌, ◌<◌, length, IfSome, IfOk, string_bytes};
+ghost use Rattle.std.specs.Prelude.{◌≡◌, ◌+◌, ◌^◌, ◌==◌, ◌<◌, IfSome, IfOk, string_bytes};
 ghost use Rattle.command.specs.Machine.{each};
-ghost use Rattle.assembler.specs.Words.{blank, letter, in_word, in_name, in_line, word, past_word, spaced, separated, a_name, number_below, printable, behind, Behind, line_of, after_line};
+ghost use Rattle.assembler.specs.Words.{blank, letter, in_word, in_name, in_line, word, past_word, spaced, separated, a_name, number_below, printable, behind, Behind, line_of};
 
 use scan::fronts::split_while;
 use scan::numbers::number_up_to;
@@ -37,7 +37,13 @@ fn in_name(b: u8) -> bool
 fn in_line(b: u8) -> bool
     ensures { result ≡ in_line b }
 {
-    b != b'\n'
+    !ends_line(&b)
+}
+
+pub(crate) fn ends_line(b: &u8) -> bool
+    ensures { result ≡ (b.now == 10) }
+{
+    *b == b'\n'
 }
 
 // What stands behind a sign, if the text begins with it.
@@ -79,14 +85,19 @@ pub(crate) struct Line<'t> {
     pub text: &'t [u8],
 }
 
-// The first line, and the lines after it.
-pub(crate) fn split_line(text: &[u8]) -> (&[u8], &[u8])
-    ensures line { result.0.now ≡ line_of text.now }
-    ensures rest { result.1.now ≡ after_line text.now }
-    ensures shorter { 0 < length text.now → length result.1.now < length text.now }
-{
-    let (line, rest) = split_while(text, in_line);
-    (line, behind(rest, b'\n').unwrap_or(rest))
+impl<'t> Line<'t> {
+    // The line that a piece of a text is, without its end.
+    pub(crate) fn of(before: usize, piece: &'t [u8]) -> Line<'t>
+        requires { before + 1 < 2 ^ 64 }
+        ensures number { result.number ≡ before + 1 }
+        ensures text { result.text.now ≡ line_of piece.now }
+    {
+        let (text, _) = split_while(piece, in_line);
+        Line {
+            number: before + 1,
+            text,
+        }
+    }
 }
 
 // A letter or an underscore, and then letters, digits and underscores.
