@@ -1,5 +1,5 @@
 -- The words of a line, names and numbers. Assumes nothing: these are definitions.
-use Rattle.std.specs.Prelude.{◌≡◌, ℕ, ◌+◌, ◌-◌, ◌*◌, Bool, not, ◌&&◌, List, [], ◌∷◌, length, Some, None, Option, MatchOption, ◌==◌, nat_le, nat_lt, slice_index}
+use Rattle.std.specs.Prelude.{◌≡◌, ℕ, ◌+◌, ◌-◌, ◌*◌, Bool, cond, not, ◌&&◌, List, [], ◌∷◌, length, take, Some, None, Option, MatchOption, ◌==◌, nat_le, nat_lt, slice_index}
 use Rattle.std.specs.Borrow.{Bor}
 use Rattle.std.specs.Option.{unwrap_or}
 use Rattle.scan.specs.Fronts.{over as is_over}
@@ -69,6 +69,10 @@ line_of t = front in_line t
 
 abbrev pub after_line : List ℕ → List ℕ
 after_line t = unwrap_or (behind 10 (past in_line t)) (past in_line t)
+
+-- a piece of a text without the end of a line that it ends with, if it does
+abbrev pub without_end : List ℕ → List ℕ
+without_end t = cond (slice_index t (length t - 1) == 10) (take (length t - 1) t) t
 
 -- nothing more but a comment
 abbrev pub over : List ℕ → Bool

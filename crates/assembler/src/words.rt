@@ -1,7 +1,7 @@
 // The words of a line: blanks, words, names and numbers.
 ghost use Rattle.std.specs.Prelude.{◌≡◌, ◌+◌, ◌^◌, ◌==◌, ◌<◌, IfSome, IfOk, string_bytes};
 ghost use Rattle.command.specs.Machine.{each};
-ghost use Rattle.assembler.specs.Words.{blank, letter, in_word, in_name, in_line, word, past_word, spaced, separated, a_name, number_below, printable, behind, Behind, line_of};
+ghost use Rattle.assembler.specs.Words.{blank, letter, in_word, in_name, word, past_word, spaced, separated, a_name, number_below, printable, behind, Behind, without_end};
 
 use scan::fronts::split_while;
 use scan::numbers::number_up_to;
@@ -33,13 +33,7 @@ fn in_name(b: u8) -> bool
     is_letter(b) || b.is_ascii_digit()
 }
 
-// All but the line's end.
-fn in_line(b: u8) -> bool
-    ensures { result ≡ in_line b }
-{
-    !ends_line(&b)
-}
-
+// Where a line ends.
 pub(crate) fn ends_line(b: &u8) -> bool
     ensures { result ≡ (b.now == 10) }
 {
@@ -86,13 +80,16 @@ pub(crate) struct Line<'t> {
 }
 
 impl<'t> Line<'t> {
-    // The line that a piece of a text is, without its end.
+    // The line that a piece of a text is, without its end. The text was cut there: no byte is looked at again.
     pub(crate) fn of(before: usize, piece: &'t [u8]) -> Line<'t>
         requires { before + 1 < 2 ^ 64 }
         ensures number { result.number ≡ before + 1 }
-        ensures text { result.text.now ≡ line_of piece.now }
+        ensures text { result.text.now ≡ without_end piece.now }
     {
-        let (text, _) = split_while(piece, in_line);
+        let text = match piece {
+            [text @ .., b'\n'] => text,
+            text => text,
+        };
         Line {
             number: before + 1,
             text,

@@ -34,6 +34,15 @@ spacing_small g v h e =
     let q : 8 ^ 0 ≤ 8 ^ v = pow-le-pow_right (omega arith) z in
     (omega arith, omega arith)
 
+-- below the top level it is smaller still
+pub spacing_below_top : (g v : ℕ) → v < 15 → g ≡ 4096 * 8 ^ v → (g * 8 ≤ 144115188075855872) × (0 < g)
+spacing_below_top g v h e =
+    let l : v ≤ 14 = omega arith in
+    let p : 8 ^ v ≤ 8 ^ 14 = pow-le-pow_right (omega arith) l in
+    let z : 0 ≤ v = omega arith in
+    let q : 8 ^ 0 ≤ 8 ^ v = pow-le-pow_right (omega arith) z in
+    (omega arith, omega arith)
+
 pub spacing_up : (g v : ℕ) → g ≡ 4096 * 8 ^ v → g * 8 ≡ 4096 * 8 ^ (v + 1)
 spacing_up g v e = rw (add-one, pow-suc) (omega arith)
 

@@ -1,5 +1,10 @@
 // What the bytes of a text are held as: a `u8` each, or a `u64` each, which may also hold a number that is no byte.
 ghost use Rattle.std.specs.Prelude.{◌≡◌, ℕ, List, [], ◌∷◌, ◌++◌, refl};
+ghost use Rattle.command.specs.Machine.{eight};
+ghost use Rattle.command.specs.Written.{Puts};
+
+use crate::writing::eight_bytes;
+use std::alloc::AllocError;
 
 pub trait Byte: Copy {
     // The numbers of a text.
@@ -10,6 +15,14 @@ pub trait Byte: Copy {
 
     fn of(byte: u8) -> Self
         ensures { text (result ∷ []) ≡ byte ∷ [] };
+
+    // Bytes behind what was written, all at once.
+    fn put(out: &mut Vec<Self>, bytes: &[u8]) -> Result<(), AllocError>
+        ensures { Puts (text out.old.items) bytes.now result (text out.new.items) };
+
+    // The eight bytes of a number, likewise.
+    fn put_number(out: &mut Vec<Self>, number: u64) -> Result<(), AllocError>
+        ensures { Puts (text out.old.items) (eight number) result (text out.new.items) };
 
     ghost nothing: { text [] ≡ [] };
 
@@ -30,6 +43,14 @@ impl Byte for u8 {
     fn of(byte: u8) -> u8 {
         byte
     }
+
+    fn put(out: &mut Vec<u8>, bytes: &[u8]) -> Result<(), AllocError> {
+        out.extend_from_slice(bytes)
+    }
+
+    fn put_number(out: &mut Vec<u8>, number: u64) -> Result<(), AllocError> {
+        Self::put(out, &number.to_be_bytes())
+    }
 }
 
 impl Byte for u64 {
@@ -45,5 +66,18 @@ impl Byte for u64 {
 
     fn of(byte: u8) -> u64 {
         u64::from(byte)
+    }
+
+    // Room is made once: the text grows as one of `u8` does.
+    fn put(out: &mut Vec<u64>, bytes: &[u8]) -> Result<(), AllocError> {
+        out.reserve(bytes.len())?;
+        for byte in bytes {
+            out.push(u64::from(*byte))?;
+        }
+        Ok(())
+    }
+
+    fn put_number(out: &mut Vec<u64>, number: u64) -> Result<(), AllocError> {
+        out.extend_from_slice(&eight_bytes(number))
     }
 }

@@ -47,14 +47,14 @@ fn show_found<W: fmt::Write>(found: &[u8], f: &mut fmt::Formatter<W>) -> fmt::Re
     }
 }
 
-// Each command that a word could be.
+// Each command that a word could be, with more letters.
 fn show_candidates<W: fmt::Write>(word: &[u8], f: &mut fmt::Formatter<W>) -> fmt::Result {
     if let Ok(text) = std::str::from_utf8(word) {
         write!(f, "'{text}' could be ")?;
     }
     let mut separator = "";
     for verb in VERBS {
-        if verb.begins_with(word) {
+        if verb.goes_on_from(word) {
             f.write_str(separator)?;
             f.write_str(verb.spelled())?;
             separator = " or ";

@@ -1,5 +1,5 @@
 // The command words, and which of them a word means.
-ghost use Rattle.std.specs.Prelude.{◌≡◌};
+ghost use Rattle.std.specs.Prelude.{◌≡◌, ◌&&◌, length, nat_lt};
 ghost use Rattle.prompt.specs.Verbs.{spelling, is_front, no_verb, choice, verbs, Chosen};
 
 use crate::mistakes::Expected;
@@ -53,6 +53,13 @@ impl Verb {
         ensures { result ≡ is_front word.now (spelling self) }
     {
         self.spelled().as_bytes().starts_with(word)
+    }
+
+    // Whether a word is the front of this one's spelling, and not all of it.
+    pub(crate) fn goes_on_from(self, word: &[u8]) -> bool
+        ensures { result ≡ is_front word.now (spelling self) && nat_lt (length word.now) (length (spelling self)) }
+    {
+        self.begins_with(word) && word.len() < self.spelled().len()
     }
 }
 

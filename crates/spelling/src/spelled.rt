@@ -1,5 +1,5 @@
 // Programs as bytes: a count of eight bytes, and each instruction as the definitions spell it.
-ghost use Rattle.std.specs.Prelude.{◌≡◌, IfOk};
+ghost use Rattle.std.specs.Prelude.{◌≡◌, length, ◌==◌, IfOk};
 ghost use Rattle.command.specs.Codes.{codes};
 ghost use Rattle.command.specs.Reader.{so_many, instr};
 ghost use Rattle.command.specs.Taken.{left};
@@ -50,6 +50,13 @@ fn read_instrs(
     Ok(program)
 }
 
+// Whether nothing is left to read.
+fn is_done(cursor: &Cursor<'_, u8>) -> bool
+    ensures { result ≡ (length (left cursor.now) == 0) }
+{
+    cursor.rest.is_empty()
+}
+
 // The program that bytes spell, to the last of them.
 pub fn read_program(heap: Global, bytes: &[u8]) -> Result<Vec<Instr>, ReadError>
     ensures { Reads bytes.now result }
@@ -57,7 +64,7 @@ pub fn read_program(heap: Global, bytes: &[u8]) -> Result<Vec<Instr>, ReadError>
     let mut cursor = Cursor { rest: bytes };
     let count = cursor.number().ok_or(ReadError::NoProgram)?;
     let program = read_instrs(heap, &mut cursor, count)?;
-    if cursor.rest.is_empty() {
+    if is_done(&cursor) {
         Ok(program)
     } else {
         Err(ReadError::NoProgram)

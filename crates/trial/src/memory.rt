@@ -35,7 +35,12 @@ impl Memory {
     ) -> Result<Vec<u64>, AllocError>
         ensures { IfOk result (λ v. v.items ≡ take count (drop from self.now.words.items)) }
     {
-        let words = self.words.iter().skip(from).take(count);
+        let words = self
+            .words
+            .get(from..)
+            .unwrap_or_default()
+            .iter()
+            .take(count);
         words.copied().map(u64::from).collect(heap)
     }
 

@@ -40,6 +40,6 @@ impl Moment {
     {
         stop.place.is_none_or(|place| self.at == u32::from(place))
             && stop.changed.is_none_or(|a| self.changed(u64::from(a)))
-            && self.passes_all(stop.tests(), memory)
+            && self.passes_all(&stop.tests[..stop.count as usize], memory)
     }
 }

@@ -16,16 +16,13 @@ pub fn eight_bytes(number: u64) -> [u64; 8]
 pub(crate) fn put<B: Byte>(out: &mut Vec<B>, bytes: &[u8]) -> Result<(), AllocError>
     ensures { Puts (B.text out.old.items) bytes.now result (B.text out.new.items) }
 {
-    for byte in bytes {
-        out.push(B::of(*byte))?;
-    }
-    Ok(())
+    B::put(out, bytes)
 }
 
 pub(crate) fn put_number<B: Byte>(out: &mut Vec<B>, number: u64) -> Result<(), AllocError>
     ensures { Puts (B.text out.old.items) (eight number) result (B.text out.new.items) }
 {
-    put(out, &number.to_be_bytes())
+    B::put_number(out, number)
 }
 
 // Some bytes, and a number behind them.

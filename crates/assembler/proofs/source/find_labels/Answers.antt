@@ -5,7 +5,7 @@ use Rattle.assembler.specs.Instructions.{labels_of}
 use Rattle.assembler.specs.Reading.{shown_name}
 use Rattle.assembler.specs.Source.{lines, noted, line_label, with_label, find_labels}
 use Rattle.assembler.proofs.Lines.{find_step, find_stop, find_end, passes_on}
-use Rattle.assembler.proofs.Pieces.{piece}
+use Rattle.assembler.proofs.Pieces.{line as first_line}
 use Rattle.assembler.proofs.source.find_labels.Goals as goal
 
 pub loop-i-init : goal.loop-i-init
@@ -15,7 +15,7 @@ pub returns-in_err-name : goal.returns-in_err-name
 returns-in_err-name c =
     let s = c.in-Some.ensures.steps in
     let f = s.0.1 in
-    let q = piece _ _ _ f.0 s.0.0 f.1 (f.2 (λ b. eqb b 10) (always_returns_same _ _ _ (λ a r g k. (search rules, refl)))).1 in
+    let q = first_line _ _ _ f.0 s.0.0 f.1 (f.2 (λ b. eqb b 10) (always_returns_same _ _ _ (λ a r g k. (search rules, refl)))).1 in
     let line = c.of-line.ensures.text ∙ q.0 in
     let number = sym (c.of-line.ensures.number ∙ ap (λ u. u + 1) s.1) in
     let same = ap (λ (v : List Code). find_labels (c.loop-i.i-iterator.count + 1) (labels_of v) c.loop-i.place (lines c.loop-i.i-iterator.iter.rest.now)) c.deref.ensures.value in
@@ -31,7 +31,7 @@ pub loop-i-preserved : goal.loop-i-preserved
 loop-i-preserved c =
     let s = c.in-Some.ensures.steps in
     let f = s.0.1 in
-    let q = piece _ _ _ f.0 s.0.0 f.1 (f.2 (λ b. eqb b 10) (always_returns_same _ _ _ (λ a r g k. (search rules, refl)))).1 in
+    let q = first_line _ _ _ f.0 s.0.0 f.1 (f.2 (λ b. eqb b 10) (always_returns_same _ _ _ (λ a r g k. (search rules, refl)))).1 in
     let line = c.of-line.ensures.text ∙ q.0 in
     let number = sym (c.of-line.ensures.number ∙ ap (λ u. u + 1) s.1) in
     let same = ap (λ (v : List Code). find_labels (c.loop-i.i-iterator.count + 1) (labels_of v) c.loop-i.place (lines c.loop-i.i-iterator.iter.rest.now)) c.deref.ensures.value in

@@ -4,7 +4,7 @@ use Rattle.command.specs.Codes.{codes}
 use Rattle.assembler.specs.Instructions.{labels_of}
 use Rattle.assembler.specs.Source.{lines, instr_of, line_instr, read_lines}
 use Rattle.assembler.proofs.Lines.{read_step, read_stop, read_end, passes_on}
-use Rattle.assembler.proofs.Pieces.{piece}
+use Rattle.assembler.proofs.Pieces.{line as first_line}
 use Rattle.assembler.proofs.source.read_lines.Goals as goal
 
 pub loop-i-init : goal.loop-i-init
@@ -14,7 +14,7 @@ pub returns-in_err-instr : goal.returns-in_err-instr
 returns-in_err-instr c =
     let s = c.in-Some.ensures.steps in
     let f = s.0.1 in
-    let q = piece _ _ _ f.0 s.0.0 f.1 (f.2 (λ b. eqb b 10) (always_returns_same _ _ _ (λ a r g k. (search rules, refl)))).1 in
+    let q = first_line _ _ _ f.0 s.0.0 f.1 (f.2 (λ b. eqb b 10) (always_returns_same _ _ _ (λ a r g k. (search rules, refl)))).1 in
     let line = c.of-line.ensures.text ∙ q.0 in
     let number = sym (c.of-line.ensures.number ∙ ap (λ u. u + 1) s.1) in
     let told = ap (λ n. line_instr n (labels_of c.args.labels.now) c.of-line.result.text.now) number in
@@ -29,7 +29,7 @@ pub loop-i-preserved : goal.loop-i-preserved
 loop-i-preserved c =
     let s = c.in-Some.ensures.steps in
     let f = s.0.1 in
-    let q = piece _ _ _ f.0 s.0.0 f.1 (f.2 (λ b. eqb b 10) (always_returns_same _ _ _ (λ a r g k. (search rules, refl)))).1 in
+    let q = first_line _ _ _ f.0 s.0.0 f.1 (f.2 (λ b. eqb b 10) (always_returns_same _ _ _ (λ a r g k. (search rules, refl)))).1 in
     let line = c.of-line.ensures.text ∙ q.0 in
     let number = sym (c.of-line.ensures.number ∙ ap (λ u. u + 1) s.1) in
     let told = ap (λ n. line_instr n (labels_of c.args.labels.now) c.of-line.result.text.now) number in

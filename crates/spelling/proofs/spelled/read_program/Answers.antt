@@ -22,22 +22,22 @@ returns-in_err-program c =
     stopped t (so_many instr c.in_ok-count.count u) (left c.read_instrs.new.cursor) c.in_err-program.field-0.0 c.from_residual-in_err-program.result
     (by_count t (took itself (bytes 8 0 t) u c.in_ok-count.ensures.ok_part c.number.ensures)) c.in_err-program.ensures c.from_residual-in_err-program.ensures.1
 
-pub returns-then-is_empty : goal.returns-then-is_empty
-returns-then-is_empty c =
+pub returns-then-is_done : goal.returns-then-is_done
+returns-then-is_done c =
     let t = c.args.bytes.now in
     let u = left c.number.new.self in
     let v = left c.read_instrs.new.cursor in
     let is = codes (vec_items c.in_ok-program.program) in
     program_back t is
     (by_count t (took itself (bytes 8 0 t) u c.in_ok-count.ensures.ok_part c.number.ensures) ∙ ap all_of c.in_ok-program.ensures
-    ∙ nothing_left is v (eqb-true (length v) 0 (sym c.if-is_empty.ensures)))
+    ∙ nothing_left is v (eqb-true (length v) 0 (sym c.if-is_done.ensures)))
 
-pub returns-else-is_empty : goal.returns-else-is_empty
-returns-else-is_empty c =
+pub returns-else-is_done : goal.returns-else-is_done
+returns-else-is_done c =
     let t = c.args.bytes.now in
     let u = left c.number.new.self in
     let v = left c.read_instrs.new.cursor in
     let is = codes (vec_items c.in_ok-program.program) in
     no_program t
     (by_count t (took itself (bytes 8 0 t) u c.in_ok-count.ensures.ok_part c.number.ensures) ∙ ap all_of c.in_ok-program.ensures
-    ∙ something_left is v (eqb-false (length v) 0 (sym c.if-is_empty.ensures)))
+    ∙ something_left is v (eqb-false (length v) 0 (sym c.if-is_done.ensures)))

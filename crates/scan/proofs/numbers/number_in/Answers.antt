@@ -1,9 +1,9 @@
 use Rattle.std.proofs.Common.{sym, ◌∙◌, arith, rules}
 use Rattle.scan.proofs.Digits.{digits_stop, digits_more, digits_all}
-use Rattle.scan.proofs.numbers.number_from.Goals as goal
+use Rattle.scan.proofs.numbers.number_in.Goals as goal
 
 pub returns-in_err-n : goal.returns-in_err-n
-returns-in_err-n c =
+returns-in_err-n g c =
     record {
       value =
           c.from_residual.ensures
@@ -12,13 +12,13 @@ returns-in_err-n c =
     }
 
 pub loop-b-preserved : goal.loop-b-preserved
-loop-b-preserved c = (
+loop-b-preserved g c = (
   sym (digits_more _ _ c.loop-b.n c.args.text.now c.loop-b.b-index (omega arith) (sym c.in_ok-n.ensures.value)) ∙ c.loop-b.invariant.0,
   c.in_ok-n.ensures.bound,
 )
 
 pub returns : goal.returns
-returns c =
+returns g c =
     record {
       value = sym (digits_all _ _ _ c.args.text.now c.loop-b.b-index (omega arith)) ∙ c.loop-b.invariant.0;
       bound = c.loop-b.invariant.1;

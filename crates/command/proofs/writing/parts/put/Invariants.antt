@@ -1,5 +1,0 @@
-use Rattle.std.proofs.Common.{◌≡◌, ◌++◌, take, vec_items}
-use Rattle.command.proofs.writing.parts.put.Given as goal
-
-abbrev pub invariant-loop-byte : goal.invariant-loop-byte
-invariant-loop-byte g l = let text = g.B.Byte.text in text (vec_items l.out) ≡ text (vec_items l.initial.out) ++ take l.byte-index l.bytes
