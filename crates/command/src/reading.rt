@@ -103,10 +103,8 @@ pub fn read(text: &[u64]) -> Result<Command, NoCommand>
 {
     let mut cursor = Cursor { rest: text };
     let kind = cursor.kind().ok_or(NoCommand)?;
-    let command = cursor.command_of(kind).ok_or(NoCommand)?;
-    if cursor.rest.is_empty() {
-        Ok(command)
-    } else {
-        Err(NoCommand)
+    match cursor.command_of(kind) {
+        Some(command) if cursor.rest.is_empty() => Ok(command),
+        _ => Err(NoCommand),
     }
 }

@@ -28,9 +28,11 @@ const BLANK: Break = Break {
     changed: None,
 };
 
+const BLANKS: [Break; MOST_BREAKS] = [BLANK; MOST_BREAKS];
+
 // What the breaks of a row are read into: from a function of its own, since a proof cannot compute with such a literal.
 fn blanks() -> [Break; MOST_BREAKS] {
-    [BLANK; MOST_BREAKS]
+    BLANKS
 }
 
 // So many, where there is room for them.

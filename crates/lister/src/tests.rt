@@ -1,6 +1,8 @@
 // The programs that bytes are.
 use crate::programs::program_in;
+use command::writing;
 use listing::Listing;
+use spelling::write_program;
 use std::test::Fail;
 
 #[test]
@@ -17,6 +19,20 @@ fn reads_bytes_that_spell_a_program(rt: HostRuntime) -> Result<(), Fail> {
         "\x20     0  jump 1\n\
          \x20     1  halt                        # jumped to from 0\n"
     );
+    Ok(())
+}
+
+#[test]
+fn writes_a_program_as_it_is_read(rt: HostRuntime) -> Result<(), Fail> {
+    let bytes = [0, 0, 0, 0, 0, 0, 0, 2, 5, 0, 0, 0, 0, 0, 0, 0, 1, 11];
+    let Ok(assembly) = program_in(rt.alloc(), &bytes) else {
+        return Err(Fail::new("the bytes are not read"));
+    };
+    let program = assembly.program.as_slice();
+    let narrow = write_program(rt.alloc(), program)?;
+    let wide = writing::write_program::<u64>(rt.alloc(), program)?;
+    assert!(rt; narrow.as_slice() == &bytes[..]);
+    assert!(rt; wide.iter().eq(bytes.map(u64::from).iter()));
     Ok(())
 }
 

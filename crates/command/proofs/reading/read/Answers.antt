@@ -15,33 +15,32 @@ returns-in_err-kind c =
     refused t _ c.from_residual.result c.from_residual.ensures.1
     (refused_none t (command_none t (took_none itself (byte (below 256) t) (left c.kind.new.self) c.in_err-kind.ensures.ok_part c.kind.ensures)))
 
-pub returns-in_err-command : goal.returns-in_err-command
-returns-in_err-command c =
-    let t = c.args.text.now in
-    let u = left c.kind.new.self in
-    refused t _ c.from_residual-in_err-command.result c.from_residual-in_err-command.ensures.1
-    (refused_none t
-    (command_at t (byte_is_first t (took itself (byte (below 256) t) u c.in_ok-kind.ensures.ok_part c.kind.ensures))
-    ∙ took_none (told u) (one_of command_ways c.in_ok-kind.kind u) (left c.command_of.new.self) c.in_err-command.ensures.ok_part c.command_of.ensures.takes))
-
-pub returns-then-is_empty : goal.returns-then-is_empty
-returns-then-is_empty c =
+pub returns-in-Some : goal.returns-in-Some
+returns-in-Some c =
     let t = c.args.text.now in
     let u = left c.kind.new.self in
     let v = left c.command_of.new.self in
-    let x = c.in_ok-command.command in
+    let x = c.in-Some.command in
     let e = byte_is_first t (took itself (byte (below 256) t) u c.in_ok-kind.ensures.ok_part c.kind.ensures) in
-    let h = took (told u) (one_of command_ways c.in_ok-kind.kind u) v c.in_ok-command.ensures.ok_part c.command_of.ensures.takes in
+    let h = took (told u) (one_of command_ways c.in_ok-kind.kind u) v c.in-Some.is c.command_of.ensures.takes in
     let z = eqb-true (length v) 0 (sym c.if-is_empty.ensures) in
-    subst (λ (u : List ℕ). Says t (told u x) × Counts u x) (rest_is t e) (accepted t v (command_is t (told u x) v e h) (omega arith), subst (λ (r : Option Command). Counted u r) c.in_ok-command.ensures.ok_part c.command_of.ensures.counted)
+    subst (λ (u : List ℕ). Says t (told u x) × Counts u x) (rest_is t e) (accepted t v (command_is t (told u x) v e h) (omega arith), subst (λ (r : Option Command). Counted u r) c.in-Some.is c.command_of.ensures.counted)
 
-pub returns-else-is_empty : goal.returns-else-is_empty
-returns-else-is_empty c =
+pub returns-in_default : goal.returns-in_default
+returns-in_default c =
     let t = c.args.text.now in
     let u = left c.kind.new.self in
     let v = left c.command_of.new.self in
-    let x = c.in_ok-command.command in
+    let x = c.in-Some.command in
     let e = byte_is_first t (took itself (byte (below 256) t) u c.in_ok-kind.ensures.ok_part c.kind.ensures) in
-    let h = took (told u) (one_of command_ways c.in_ok-kind.kind u) v c.in_ok-command.ensures.ok_part c.command_of.ensures.takes in
+    let h = took (told u) (one_of command_ways c.in_ok-kind.kind u) v c.in-Some.is c.command_of.ensures.takes in
     let z = eqb-false (length v) 0 (sym c.if-is_empty.ensures) in
     refused_left t v (command_is t (told u x) v e h) (omega arith)
+
+pub returns-in_default-2 : goal.returns-in_default-2
+returns-in_default-2 c =
+    let t = c.args.text.now in
+    let u = left c.kind.new.self in
+    refused_none t
+    (command_at t (byte_is_first t (took itself (byte (below 256) t) u c.in_ok-kind.ensures.ok_part c.kind.ensures))
+    ∙ took_none (told u) (one_of command_ways c.in_ok-kind.kind u) (left c.command_of.new.self) c.in_default.is c.command_of.ensures.takes)
