@@ -107,7 +107,9 @@ pub(crate) fn is_name(word: &[u8]) -> bool
     }
 }
 
-// The number that a word writes, in tens or after 0x in sixteens, if it is below a limit.
+// The number that a word writes, in tens or after 0x in sixteens, if it is below a limit. Inlined, since a limit that the compiler knows spares it a test for
+// overflow at each digit.
+#[inline]
 #[tactic(auto, using(crate::proofs::Values::number_same))]
 pub(crate) fn number_below(word: &[u8], limit: u64) -> Option<u64>
     requires { 0 < limit }

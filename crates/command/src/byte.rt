@@ -3,7 +3,6 @@ ghost use Rattle.std.specs.Prelude.{◌≡◌, ℕ, List, [], ◌∷◌, ◌++�
 ghost use Rattle.command.specs.Machine.{eight};
 ghost use Rattle.command.specs.Written.{Puts};
 
-use crate::writing::eight_bytes;
 use std::alloc::AllocError;
 
 pub trait Byte: Copy {
@@ -72,12 +71,13 @@ impl Byte for u64 {
     fn put(out: &mut Vec<u64>, bytes: &[u8]) -> Result<(), AllocError> {
         out.reserve(bytes.len())?;
         for byte in bytes {
-            out.push(u64::from(*byte))?;
+            out.push_reserved(u64::from(*byte));
         }
         Ok(())
     }
 
     fn put_number(out: &mut Vec<u64>, number: u64) -> Result<(), AllocError> {
-        out.extend_from_slice(&eight_bytes(number))
+        let bytes = number.to_be_bytes();
+        Self::put(out, &bytes)
     }
 }
