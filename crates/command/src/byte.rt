@@ -20,8 +20,12 @@ pub trait Byte: Copy {
         ensures { Puts (text out.old.items) bytes.now result (text out.new.items) };
 
     // The eight bytes of a number, likewise.
+    #[tactic(auto, using(crate::proofs::Writes::eight_is))]
     fn put_number(out: &mut Vec<Self>, number: u64) -> Result<(), AllocError>
-        ensures { Puts (text out.old.items) (eight number) result (text out.new.items) };
+        ensures { Puts (text out.old.items) (eight number) result (text out.new.items) }
+    {
+        Self::put(out, &number.to_be_bytes())
+    }
 
     ghost nothing: { text [] ≡ [] };
 
@@ -45,10 +49,6 @@ impl Byte for u8 {
 
     fn put(out: &mut Vec<u8>, bytes: &[u8]) -> Result<(), AllocError> {
         out.extend_from_slice(bytes)
-    }
-
-    fn put_number(out: &mut Vec<u8>, number: u64) -> Result<(), AllocError> {
-        Self::put(out, &number.to_be_bytes())
     }
 }
 
@@ -74,10 +74,5 @@ impl Byte for u64 {
             out.push_reserved(u64::from(*byte));
         }
         Ok(())
-    }
-
-    fn put_number(out: &mut Vec<u64>, number: u64) -> Result<(), AllocError> {
-        let bytes = number.to_be_bytes();
-        Self::put(out, &bytes)
     }
 }

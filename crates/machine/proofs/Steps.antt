@@ -56,15 +56,6 @@ module _ (m : List ℕ) (kind a b c : ℕ) (told out : List ℕ) where
   unfolding StepSays
   step_refused e = rw e (refl, refl, refl)
 
-  pub kind_refused : 3 < kind → StepSays m kind a b c told out (step_fits m kind out) (No Unfit) m out
-  kind_refused h = step_refused (kind_unfit m kind out h)
-
-  pub memory_refused : length m ≢ 32000 → StepSays m kind a b c told out (step_fits m kind out) (No Unfit) m out
-  memory_refused h = step_refused (memory_unfit m kind out h)
-
-  pub row_refused : length out < 65536 → StepSays m kind a b c told out (step_fits m kind out) (No Unfit) m out
-  row_refused h = step_refused (row_unfit m kind out h)
-
   pub step_done : (ev : Event) (r : Told) (cells m₁ row row₁ : List ℕ) → ev ≡ event_of kind a b c told → length m ≡ 32000 → cells ≡ m → kind ≤ 3 →
       65536 ≤ length out → row ≡ take 65536 out → length row₁ ≡ 65536 → Carries (planned cells ev) cells r row m₁ row₁ →
       StepSays m kind a b c told out (step_fits m kind out) r m₁ (row₁ ++ drop 65536 out)

@@ -125,7 +125,7 @@ fn answer(memory: &mut [u64; CELLS], event: Event, row: &mut [u64; ROW]) -> Told
 }
 
 // The event of a kind is answered, on a memory and a row of their lengths; else nothing is changed.
-#[tactic(auto, using(crate::proofs::Steps::kind_refused, crate::proofs::Steps::memory_refused, crate::proofs::Steps::row_refused))]
+#[tactic(auto, using(crate::proofs::Steps::step_refused, crate::proofs::Steps::kind_unfit, crate::proofs::Steps::memory_unfit, crate::proofs::Steps::row_unfit))]
 pub fn step(
     memory: &mut [u64],
     kind: u64,
