@@ -15,9 +15,15 @@ pub trait Byte: Copy {
     fn of(byte: u8) -> Self
         ensures { text (result ∷ []) ≡ byte ∷ [] };
 
-    // Bytes behind what was written, all at once.
+    // Bytes behind what was written: one by one, where a type knows no quicker way.
     fn put(out: &mut Vec<Self>, bytes: &[u8]) -> Result<(), AllocError>
-        ensures { Puts (text out.old.items) bytes.now result (text out.new.items) };
+        ensures { Puts (text out.old.items) bytes.now result (text out.new.items) }
+    {
+        for byte in bytes {
+            out.push(Self::of(*byte))?;
+        }
+        Ok(())
+    }
 
     // The eight bytes of a number, likewise.
     #[tactic(auto, using(crate::proofs::Writes::eight_is))]

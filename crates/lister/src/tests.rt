@@ -1,9 +1,33 @@
 // The programs that bytes are.
+ghost use Rattle.std.specs.Prelude.{map, refl};
+ghost use Rattle.std.proofs.lemmas.List.{map-append};
+
 use crate::programs::program_in;
+use command::byte::Byte;
 use command::writing;
 use listing::Listing;
 use spelling::write_program;
 use std::test::Fail;
+
+// Bytes as a caller may hold them, with no quicker way to put them than the trait's.
+#[derive(Clone, Copy)]
+struct Held(u8);
+
+impl Byte for Held {
+    ghost text = { map (λ held. held.0) };
+
+    ghost nothing = { refl };
+
+    ghost joined = { map-append (λ held. held.0) };
+
+    fn number(self) -> u64 {
+        u64::from(self.0)
+    }
+
+    fn of(byte: u8) -> Held {
+        Held(byte)
+    }
+}
 
 #[test]
 fn reads_bytes_that_spell_a_program(rt: HostRuntime) -> Result<(), Fail> {
@@ -33,6 +57,17 @@ fn writes_a_program_as_it_is_read(rt: HostRuntime) -> Result<(), Fail> {
     let wide = writing::write_program::<u64>(rt.alloc(), program)?;
     assert!(rt; narrow.as_slice() == &bytes[..]);
     assert!(rt; wide.iter().eq(bytes.map(u64::from).iter()));
+    Ok(())
+}
+
+#[test]
+fn writes_a_program_for_bytes_of_a_callers_own(rt: HostRuntime) -> Result<(), Fail> {
+    let bytes = [0, 0, 0, 0, 0, 0, 0, 2, 5, 0, 0, 0, 0, 0, 0, 0, 1, 11];
+    let Ok(assembly) = program_in(rt.alloc(), &bytes) else {
+        return Err(Fail::new("the bytes are not read"));
+    };
+    let held = writing::write_program::<Held>(rt.alloc(), assembly.program.as_slice())?;
+    assert!(rt; held.iter().map(|held| held.0).eq(bytes.iter().copied()));
     Ok(())
 }
 
