@@ -15,12 +15,13 @@ pub trait Byte: Copy {
     fn of(byte: u8) -> Self
         ensures { text (result ∷ []) ≡ byte ∷ [] };
 
-    // Bytes behind what was written: one by one, where a type knows no quicker way.
+    // Bytes behind what was written. Room is made once for all of them.
     fn put(out: &mut Vec<Self>, bytes: &[u8]) -> Result<(), AllocError>
         ensures { Puts (text out.old.items) bytes.now result (text out.new.items) }
     {
+        out.reserve(bytes.len())?;
         for byte in bytes {
-            out.push(Self::of(*byte))?;
+            out.push_reserved(Self::of(*byte));
         }
         Ok(())
     }
@@ -71,14 +72,5 @@ impl Byte for u64 {
 
     fn of(byte: u8) -> u64 {
         u64::from(byte)
-    }
-
-    // Room is made once: the text grows as one of `u8` does.
-    fn put(out: &mut Vec<u64>, bytes: &[u8]) -> Result<(), AllocError> {
-        out.reserve(bytes.len())?;
-        for byte in bytes {
-            out.push_reserved(u64::from(*byte));
-        }
-        Ok(())
     }
 }
